@@ -8,7 +8,7 @@
 # fuzz-NUMBER.oa where it is called. It needs gcc and the proved program (`./prove`), or the path of another in `program`.
 set -eu
 top=$(cd "$(dirname "$0")/.." && pwd)
-[ -n "${program:-}" ] || "$top/prove" --is-ready || { echo "the proved program isn't there: run ./prove first" >&2; exit 2; }
+[ -n "${program:-}" ] || "$top/prove" --is-ready oa || { echo "the proved program isn't there: run ./prove first" >&2; exit 2; }
 work=$(mktemp -d)
 trap 'rm -rf "$work"' EXIT
 gcc -O2 -Wall -Wextra -o "$work/fuzz" "$top/bench/fuzz.c"

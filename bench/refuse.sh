@@ -8,7 +8,7 @@
 set -eu
 [ -z "${program:-}" ] || program=$(realpath "$program")
 cd "$(dirname "$0")/.."
-[ -n "${program:-}" ] || ./prove --is-ready || { echo "the proved program isn't there: run ./prove first" >&2; exit 2; }
+[ -n "${program:-}" ] || ./prove --is-ready oa || { echo "the proved program isn't there: run ./prove first" >&2; exit 2; }
 program=${program:-crates/oa/out/oa}
 work=$(mktemp -d)
 trap 'rm -rf "$work"' EXIT

@@ -1,19 +1,23 @@
 #!/usr/bin/env bash
 # Follows docs/tutorial.md to the letter, and examples/*.out: writes the files that the page shows, runs each command, and compares what it writes
-# with what stands below it. The program is the argument, or ./oa. The status is 0 if all is as shown, 1 if anything isn't, and else 2.
+# with what stands below it. The programs are the arguments, or ./oa and ./oax. The status is 0 if all is as shown, 1 if anything isn't, and else 2.
 #
 # A block of the page, which is what stands indented by 4, is a file if it begins with `# NAME.oa:` or `/* NAME.c:`, and a transcript if it
 # begins with `$ `; an .out file is a transcript. One that calls `cc` is passed over if there is no C compiler. A line `$ COMMAND` of a transcript
-# is run with the status of the one before in `$?`. What it writes to standard error is compared if a line that begins with `oa: ` is shown.
+# is run with the status of the one before in `$?`. What it writes to standard error is compared if a line that begins with `oa: ` or `oax: ` is shown.
 set -u
 top=$(cd "$(dirname "$0")/.." && pwd) || exit 2
-program=${1-$top/oa}
-[[ $program == /* ]] || program=$PWD/$program
-[ -x "$program" ] || { echo "tutorial: there is no program $program" >&2; exit 2; }
+oa=${1-$top/oa} oax=${2-$top/oax}
+command -v python3 >/dev/null 2>&1 || { echo "tutorial: python3 is not on the path, which the page's tools need" >&2; exit 2; }
 work=$(mktemp -d) || exit 2
 trap 'rm -rf "$work"' EXIT
 mkdir "$work/page" && ln -s "$top/examples" "$work/examples" || exit 2
-printf '#!/usr/bin/env bash\nexec %q "$@"\n' "$program" >"$work/oa" && chmod +x "$work/oa" || exit 2
+for name in oa oax; do
+  program=${!name}
+  [[ $program == /* ]] || program=$PWD/$program
+  [ -x "$program" ] || { echo "tutorial: there is no program $program" >&2; exit 2; }
+  printf '#!/usr/bin/env bash\nexec %q "$@"\n' "$program" >"$work/$name" && chmod +x "$work/$name" || exit 2
+done
 PATH=$work:$top/tools:$PATH
 commands=0 differing=0 last=0
 
@@ -22,7 +26,7 @@ compare() { # PLACE COMMAND EXPECTED
   local shown
   ( (exit "$last"); eval "$2") >"$work/said" 2>"$work/told" </dev/null
   last=$?
-  [[ $'\n'$3 != *$'\n''oa: '* ]] || grep -v '^oa: no proved program stands ready' "$work/told" >>"$work/said"
+  [[ $'\n'$3 != *$'\n''oa: '* && $'\n'$3 != *$'\n''oax: '* ]] || grep -vE '^oax?: no proved program stands ready' "$work/told" >>"$work/said"
   commands=$((commands + 1))
   printf '%s' "$3" >"$work/shown"
   if ! shown=$(diff "$work/shown" "$work/said"); then

@@ -1,4 +1,4 @@
-# Completion for bash: the words of oa, and files for its tools. Source it, or put it where bash-completion looks. Tested, not proved.
+# Completion for bash: the words of oa and oax, and files for its tools. Source it, or put it where bash-completion looks. Tested, not proved.
 _oa() {
   local word=${COMP_WORDS[COMP_CWORD]} before=${COMP_WORDS[COMP_CWORD - 1]}
   if [[ $before == '<' ]]; then
@@ -9,6 +9,14 @@ _oa() {
     mapfile -t COMPREPLY < <(compgen -W 'check make' -- "$word")
   elif [ "${COMP_WORDS[1]}" = workload ] && [ "$COMP_CWORD" -eq 3 ]; then
     mapfile -t COMPREPLY < <(compgen -W '1 2 3 4 5 6 7 8' -- "$word")
+  fi
+}
+_oax() {
+  local word=${COMP_WORDS[COMP_CWORD]} before=${COMP_WORDS[COMP_CWORD - 1]}
+  if [[ $before == '<' ]]; then
+    mapfile -t COMPREPLY < <(compgen -f -X '!*.cert' -- "$word"; compgen -d -- "$word")
+  elif [ "$COMP_CWORD" -eq 1 ]; then
+    mapfile -t COMPREPLY < <(compgen -W 'proper --help --version' -- "$word")
   fi
 }
 _oa_tool() {
@@ -24,4 +32,5 @@ _oa_tool() {
   fi
 }
 complete -F _oa oa ./oa
+complete -F _oax oax ./oax
 complete -o filenames -F _oa_tool oa-labels oa-lint oa-timeline

@@ -5,6 +5,7 @@ ghost use Rattle.word_runner.specs.Shown.{CameFrom};
 
 use crate::announced::announced;
 use crate::budgets::budgets;
+use crate::meeting::meeting;
 use crate::places::places;
 use crate::plans::planned;
 use crate::sharing::sharing;
@@ -16,7 +17,8 @@ use std::thread::Threads;
 use word_runner::Blank;
 
 /// What the blanks or the callers of a hall do.
-fn in_hall(
+fn in_hall<R: Threads + Sync>(
+    rt: &R,
     alloc: Global,
     kind: &str,
     rest: &str,
@@ -31,6 +33,9 @@ fn in_hall(
         let answered = places(alloc, &hall, blank, count, out);
         drop(hall);
         answered
+    } else if kind == "meet" {
+        let budget = number(rest).unwrap_or(0);
+        meeting(rt, alloc, hall, blank, budget, out)
     } else {
         budgets(alloc, hall, blank, kind, rest, out)
     }
@@ -44,7 +49,8 @@ fn hall_of(alloc: Global, room: u32, bytes: &[u8]) -> Option<(WordHall, Blank)>
 }
 
 /// The row of the callers of a document, and what it says before that: for how many replies each has room, and what they do.
-fn hall_row(
+fn hall_row<R: Threads + Sync>(
+    rt: &R,
     alloc: Global,
     kind: &str,
     words: &str,
@@ -61,15 +67,21 @@ fn hall_row(
         return announced(alloc, room, rest, bytes, out);
     }
     match hall_of(alloc, room, bytes) {
-        Some((hall, blank)) => in_hall(alloc, kind, rest, hall, blank, out),
+        Some((hall, blank)) => in_hall(rt, alloc, kind, rest, hall, blank, out),
         None => Err(RowError::Wrong),
     }
 }
 
 /// A row whose first word says what callers do on an arena.
-fn caller_row(alloc: Global, row: &str, bytes: &[u8], out: &mut String) -> Result<(), RowError> {
+fn caller_row<R: Threads + Sync>(
+    rt: &R,
+    alloc: Global,
+    row: &str,
+    bytes: &[u8],
+    out: &mut String,
+) -> Result<(), RowError> {
     match row.split_once(' ') {
-        Some((kind, words)) => hall_row(alloc, kind, words, bytes, out),
+        Some((kind, words)) => hall_row(rt, alloc, kind, words, bytes, out),
         None => Err(RowError::Wrong),
     }
 }
@@ -89,6 +101,6 @@ pub(crate) fn answer<R: Threads + Sync>(
     match row {
         "sharing" => sharing(rt, alloc, &bytes, out),
         "spent" => spent(alloc, &bytes, out),
-        _ => caller_row(alloc, row, &bytes, out),
+        _ => caller_row(rt, alloc, row, &bytes, out),
     }
 }

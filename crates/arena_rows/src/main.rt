@@ -6,6 +6,8 @@
 //!   two, on the words of a table: `first operates INDEX BUDGET` with the call at this index of its script, by at most so many
 //!   steps, `first resumes BUDGET`, and the same of `second`; how each move ends, and at the end the phase and the entries.
 //! - `announced ROOM, MOVE, .. < DOCUMENT`: the same of two callers that run the document's text as it is, on an epoch arena.
+//! - `meet ROOM, BUDGET < DOCUMENT`: the callers of a document's two scripts make the first call of each at the same time, each in a thread
+//!   of its own, by at most so many steps.
 //! - `places ROOM, COUNT < DOCUMENT`: so many blanks enter, and then one more tries it twice.
 //! - `spent < DOCUMENT`: the phase at the end of a replay of the document's scripts without turns, whether each caller has a call that was
 //!   given its fuel of steps and hasn't ended, and its replies.
@@ -19,6 +21,7 @@ mod announced;
 mod answer;
 mod budgets;
 mod hall;
+mod meeting;
 mod places;
 mod plans;
 mod sharing;

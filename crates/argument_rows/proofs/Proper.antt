@@ -22,7 +22,7 @@ use Rattle.source_machine.specs.State.{first_memory}
 use Rattle.source_machine.specs.Step.{generator_at, generator_begun, performed}
 use Rattle.source_machine.specs.Run.{mover, is_enabled_by}
 use Rattle.source_machine.specs.MethodRuns.{MethodRun}
-use Rattle.source_machine.specs.Proper.{has, runs_method, IsProperState, IsProper}
+use Rattle.source_machine.specs.Proper.{has, runs_method, IsProperState, IsProperForAny}
 use Rattle.source_machine.specs.Frames.{Kept}
 use Rattle.source_machine.proofs.Frames.{proper_in}
 use Rattle.argument_rows.specs.Losing.{losing}
@@ -152,7 +152,7 @@ state_is_proper s callers runs fine all = record {
   old c None at running = absurd (let z : false ≡ true = running in cc)
   old c (Some caller) at running = (all c caller at).0
 
-pub losing_is_proper : IsProper losing
+pub losing_is_proper : IsProperForAny losing
 losing_is_proper =
     proper_in losing (Unit {0}) (λ s. memory) (λ s. Unit {0}) Stands (λ c s s'. Unit {0})
     (λ c d s s' run caller goes fine ne stands. stands) keeps tt refl tt (λ c. (refl, inl (record { replies = []; is = refl }))) state_is_proper

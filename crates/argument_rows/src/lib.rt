@@ -3,7 +3,7 @@
 
 ghost use Rattle.norm_lang.specs.Limits.{IsWithinLimits};
 ghost use Rattle.norm_lang.specs.NormalForm.{IsNormal};
-ghost use Rattle.source_machine.specs.Proper.{IsProper};
+ghost use Rattle.source_machine.specs.Proper.{IsProperForAny};
 ghost use Rattle.argument_rows.specs.Calls.{CoreArgumentRows};
 ghost use Rattle.argument_rows.specs.Losing.{losing, ArgumentRows};
 
@@ -17,9 +17,9 @@ pub fn argument_rows()
 
 /// A text that the rules accept is proper, although it would retire the node in its root for an argument past 64 bits: there
 /// is no such argument.
-#[tactic(auto, using(crate::proofs::Rows::losing_is_within, crate::proofs::Rows::losing_is_normal, crate::proofs::Proper::losing_is_proper))]
+#[tactic(auto, using(crate::proofs::Rows::losing_is_within, crate::proofs::Rows::losing_is_normal))]
 pub fn losing_is_proper()
     ensures within { IsWithinLimits losing }
     ensures normal { IsNormal losing }
-    ensures proper { IsProper losing }
+    ensures proper { IsProperForAny losing }
 {}

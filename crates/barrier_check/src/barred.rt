@@ -5,7 +5,6 @@ ghost use Rattle.norm_lang.specs.declared.text.Reg.TheVariants.{Ref};
 ghost use Rattle.norm_lang.specs.Kept.{IsKept};
 ghost use Rattle.norm_lang.specs.Limits.{IsWithinLimits};
 ghost use Rattle.norm_lang.specs.NormalForm.{IsNormal};
-ghost use Rattle.norm_check.specs.KeptTable.{AreKeptOf};
 ghost use Rattle.target_code.specs.Barred.{IsBarred};
 ghost use Rattle.target_code.specs.TargetLimits.{IsTargetWithinLimits};
 ghost use Rattle.barrier_check.specs.Paired.{IsSound};
@@ -14,10 +13,8 @@ ghost use Rattle.barrier_check.specs.Verified.{IsVerified};
 use crate::erasing::compare;
 use crate::flaw::VerifyError;
 use crate::judge::judge_ops;
-use norm_check::{Normal, keeps};
-use norm_lang::list::Listed;
+use norm_check::Normal;
 use norm_lang::text::Text;
-use norm_paths::Kept;
 use std::alloc::Global;
 use std::marker::Model;
 use target_code::target::Target;
@@ -26,8 +23,7 @@ use target_code::target::Target;
 #[derive(Drop)]
 pub struct Barred {
     target: Target,
-    source: Text,
-    kept: Listed<Kept>,
+    normal: Normal,
 }
 
 impl Model for Barred {
@@ -37,22 +33,21 @@ impl Model for Barred {
 
     ghost use Rattle.norm_lang.specs.Limits.{IsWithinLimits};
     ghost use Rattle.norm_lang.specs.NormalForm.{IsNormal};
-    ghost use Rattle.norm_check.specs.KeptTable.{AreKeptOf};
     ghost use Rattle.target_code.specs.Barred.{IsBarred};
     ghost use Rattle.target_code.specs.TargetLimits.{IsTargetWithinLimits};
     ghost use Rattle.barrier_check.specs.Paired.{IsSound};
 
-    ghost view = { λ b. record { target = b.target; source = b.source } };
+    ghost view = { λ b. record { target = b.target; source = b.normal } };
 
-    ghost invariant = { λ b. IsSound (record { target = b.target; source = b.source }) × AreKeptOf b.source b.kept };
+    ghost invariant = { λ b. IsSound (record { target = b.target; source = b.normal }) };
 }
 
-/// Judges a target for a text, and answers which references the wrap-up of each of the text's operations keeps.
+/// Judges a target for a text.
 #[tactic(auto, using(crate::proofs::Verifying::is_barred))]
-fn judge(alloc: Global, target: &Target, text: &Text) -> Result<Listed<Kept>, VerifyError>
+fn judge(alloc: Global, target: &Target, text: &Text) -> Result<(), VerifyError>
     requires target { IsTargetWithinLimits target.now }
     requires text { IsWithinLimits text.now }
-    ensures barred { IfOk result (λ kept. IsBarred target.now text.now × AreKeptOf text.now kept) }
+    ensures barred { IfOk result (λ _. IsBarred target.now text.now) }
     ensures refused { IfErr result (λ e. IsVerified target.now text.now (Err e)) }
 {
     compare(alloc, target, text)?;
@@ -70,17 +65,22 @@ pub fn verify(alloc: Global, target: Target, normal: &Normal) -> Result<Barred, 
     requires { IsTargetWithinLimits target }
     ensures { IsVerified target normal.now result }
 {
-    let text = normal.text();
-    let kept = judge(alloc, &target, text)?;
-    let source = text.copy(alloc)?;
-    Ok(Barred {
-        target,
-        source,
-        kept,
-    })
+    judge(alloc, &target, normal.text())?;
+    let normal = normal.copy(alloc)?;
+    Ok(Barred::compiled(target, normal))
 }
 
 impl Barred {
+    /// A target that is barred for its text, as what `compile` answers is. It isn't verified, and takes no memory.
+    pub fn compiled(target: Target, normal: Normal) -> Barred
+        requires within { IsTargetWithinLimits target }
+        requires barred { IsBarred target normal }
+        ensures { result ≡ record { target = target; source = normal } }
+    {
+        normal.kept();
+        Barred { target, normal }
+    }
+
     /// What every barred target keeps: a law for those who hold one. The body reads a field, which makes the invariant known.
     pub fn kept(&self)
         ensures { IsSound self.now }
@@ -97,13 +97,20 @@ impl Barred {
         &self.target
     }
 
-    /// The text that it was verified for.
+    /// The text that it is barred for, in normal form.
+    pub fn normal(&self) -> &Normal
+        ensures { result.now ≡ self.now.source }
+    {
+        &self.normal
+    }
+
+    /// The text that it is barred for.
     pub fn source(&self) -> &Text
         ensures same { result.now ≡ self.now.source }
         ensures within { IsWithinLimits result.now }
         ensures normal { IsNormal result.now }
     {
-        &self.source
+        self.normal.text()
     }
 
     /// Whether the wrap-up of an operation of the source, by its number, uses what a reference register held at the
@@ -113,6 +120,6 @@ impl Barred {
         requires register { register < 8 }
         ensures { IsSomeAnd (slice_get self.now.source.ops op) (λ o. IsTrue result ↔ IsKept o (Ref register)) }
     {
-        keeps(self.kept.items(), op as usize, register)
+        self.normal.is_kept(op, register)
     }
 }

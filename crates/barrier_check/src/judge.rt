@@ -1,9 +1,8 @@
 //! Judging the instructions of a target: one, a method, an operation, and all operations.
 
-ghost use Rattle.std.specs.Prelude.{◌≡◌, ◌≤◌, [], Some, slice_get, length, IfOk};
+ghost use Rattle.std.specs.Prelude.{◌≡◌, ◌≤◌, Some, slice_get, length};
 ghost use Rattle.norm_lang.specs.Limits.{IsWithinLimits};
-ghost use Rattle.norm_check.specs.KeptTable.{AreKeptOf};
-ghost use Rattle.norm_paths.specs.Found.{AreKept, IsOpWithin};
+ghost use Rattle.norm_paths.specs.Found.{IsOpWithin};
 ghost use Rattle.norm_paths.specs.OpFound.{AreOpFacts};
 ghost use Rattle.target_code.specs.Barred.{HasFlaw};
 ghost use Rattle.target_code.specs.Paths.{target_code_of};
@@ -17,9 +16,8 @@ ghost use Rattle.barrier_check.specs.Scopes.{AtPlace, InMethod, InOp, Anywhere, 
 
 use crate::flaw::{Flaw, FlawKind, VerifyError};
 use crate::subject::Subject;
-use norm_lang::list::Listed;
 use norm_lang::text::Text;
-use norm_paths::{Kept, OpFacts};
+use norm_paths::OpFacts;
 use std::alloc::Global;
 use target_code::target::{Target, TargetInstr, target_code_of};
 use target_flaws::{Needs, TargetFacts, flaws};
@@ -138,53 +136,25 @@ fn judge_by(alloc: Global, subject: &Subject, facts: &OpFacts) -> Result<(), Ver
     judge_methods(alloc, subject, &needs)
 }
 
-/// What is kept, if the operation has no flaw. This is a function of its own, since what is known of the operation
-/// would be dropped on each way out.
-fn with_kept(
-    _subject: &Subject,
-    kept: Kept,
-    judged: Result<(), VerifyError>,
-) -> Result<Kept, VerifyError>
-    requires judges { Judges (HasFlaw _subject.now.target.now _subject.now.text.now) (InOp _subject.now.number) judged }
-    requires kept { AreKept _subject.now.source.now kept }
-    ensures judges { Judges (HasFlaw _subject.now.target.now _subject.now.text.now) (InOp _subject.now.number) result }
-    ensures kept { IfOk result (AreKept _subject.now.source.now) }
-{
-    match judged {
-        Ok(()) => Ok(kept),
-        Err(error) => Err(error),
-    }
-}
-
-/// Judges an operation of a target, and answers which references the wrap-up of the text's operation keeps.
+/// Judges an operation of a target.
 #[tactic(auto, using(norm_paths::proofs::Founding::sized_within))]
-fn judge_op(alloc: Global, subject: &Subject) -> Result<Kept, VerifyError>
+fn judge_op(alloc: Global, subject: &Subject) -> Result<(), VerifyError>
     requires subject { IsSubject subject.now.target.now subject.now.text.now subject.now.number subject.now.op.now subject.now.source.now }
     requires within { IsOpWithin subject.now.source.now }
     requires limits { IsTargetOpWithin subject.now.op.now }
-    ensures judges { Judges (HasFlaw subject.now.target.now subject.now.text.now) (InOp subject.now.number) result }
-    ensures kept { IfOk result (AreKept subject.now.source.now) }
+    ensures { Judges (HasFlaw subject.now.target.now subject.now.text.now) (InOp subject.now.number) result }
 {
     let facts = OpFacts::of_op(alloc, subject.source)?;
-    let judged = judge_by(alloc, subject, &facts);
-    with_kept(subject, facts.kept, judged)
+    judge_by(alloc, subject, &facts)
 }
 
-/// Judges a target for a text with as many operations, and adds which references the wrap-up of each of the text's
-/// operations keeps.
-#[tactic(auto, using(crate::proofs::Parts::none_earlier, crate::proofs::Parts::one_operation_further, crate::proofs::Whole::all_operations, crate::proofs::Parts::flawed_anywhere, norm_check::proofs::Tables::no_table, norm_check::proofs::Tables::one_kept_further, norm_check::proofs::Tables::all_kept, norm_paths::proofs::Founding::op_within, norm_check::proofs::Tables::few_ops))]
-fn add_judged(
-    table: &mut Listed<Kept>,
-    alloc: Global,
-    target: &Target,
-    text: &Text,
-) -> Result<(), VerifyError>
+/// Judges a target for a text with as many operations. The cost grows with the count of instructions.
+#[tactic(auto, using(crate::proofs::Parts::none_earlier, crate::proofs::Parts::one_operation_further, crate::proofs::Whole::all_operations, crate::proofs::Parts::flawed_anywhere, norm_paths::proofs::Founding::op_within, norm_check::proofs::Tables::few_ops))]
+pub(crate) fn judge_ops(alloc: Global, target: &Target, text: &Text) -> Result<(), VerifyError>
     requires target { IsTargetWithinLimits target.now }
     requires text { IsWithinLimits text.now }
     requires count { length target.now.ops ≡ length text.now.ops }
-    requires empty { table.old ≡ [] }
-    ensures judges { Judges (HasFlaw target.now text.now) Anywhere result }
-    ensures kept { IfOk result (λ _. AreKeptOf text.now table.new) }
+    ensures { Judges (HasFlaw target.now text.now) Anywhere result }
 {
     let ops = target.ops.items();
     let sources = text.ops.items();
@@ -196,26 +166,7 @@ fn add_judged(
             op,
             source: &sources[number],
         };
-        let kept = judge_op(alloc, &subject)?;
-        table.push(kept)?;
+        judge_op(alloc, &subject)?;
     }
     Ok(())
-}
-
-/// Judges a target for a text with as many operations, and answers which references the wrap-up of each of the text's
-/// operations keeps. The cost grows with the count of instructions.
-pub(crate) fn judge_ops(
-    alloc: Global,
-    target: &Target,
-    text: &Text,
-) -> Result<Listed<Kept>, VerifyError>
-    requires target { IsTargetWithinLimits target.now }
-    requires text { IsWithinLimits text.now }
-    requires count { length target.now.ops ≡ length text.now.ops }
-    ensures judges { Judges (HasFlaw target.now text.now) Anywhere result }
-    ensures kept { IfOk result (λ table. AreKeptOf text.now table) }
-{
-    let mut table = Listed::empty(alloc);
-    add_judged(&mut table, alloc, target, text)?;
-    Ok(table)
 }

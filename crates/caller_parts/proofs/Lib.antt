@@ -6,3 +6,4 @@ pub mod Turns
 pub mod Emptying
 pub mod Tables
 pub mod KindCounts
+mod WorkedLimits

@@ -1,8 +1,8 @@
 -- What a run is told once.
-use Rattle.std.specs.Prelude.{◌≡◌, ℕ, zero, suc, ◌≤◌, ◌<◌, Bool, true, ◌&&◌, List, nat_le, if◌then◌else◌, Result, Ok, Err, length, slice_index}
+use Rattle.std.specs.Prelude.{◌≡◌, ℕ, zero, suc, ◌+◌, ◌*◌, ◌^◌, ◌≤◌, ◌<◌, Bool, true, ◌&&◌, List, nat_le, if◌then◌else◌, Result, Ok, Err, length, slice_index}
 use Rattle.oa_words.specs.Words.{Sizes}
 use Rattle.oa_words.specs.SlotKinds.{slots_of}
-use Rattle.oa_words.specs.Within.{AreSizes}
+use Rattle.oa_words.specs.Within.{AreSizes, AreSmall}
 use Rattle.target_code.specs.declared.target.Target.{Target}
 use Rattle.caller_parts.specs.KindCounts.{greatest_count, node_counts}
 use Rattle.caller_parts.specs.declared.limits.TheConstants.{MOST_PHASES}
@@ -36,13 +36,19 @@ pub record Fits (target : Target) (setting : Setting) : Type 0 where
 abbrev pub HaveSlots : Sizes → List ℕ → Type 0
 HaveSlots sizes nodes = (t : ℕ) → t < length sizes.kinds → slice_index nodes t ≤ slots_of sizes t
 
--- what every setting keeps: sizes within the limits, phases from 1 to 2^50, and slots for its initial nodes
+-- what laws ask of a setting: sizes, phases from 1 on, of which the last fits a word beside each slot, and slots for the initial nodes.
+-- A status has room for the last phase too, since a head has at least as many tops as a status has kinds
 pub record IsSetting (setting : Setting) : Type 0 where
   pub sizes : AreSizes setting.sizes
   pub first : 1 ≤ setting.first
   pub phases : setting.first ≤ setting.last
-  pub last : setting.last ≤ MOST_PHASES
+  pub last : setting.last * setting.sizes.tops + setting.sizes.tops ≤ 2 ^ 64
   pub nodes : HaveSlots setting.sizes setting.nodes
+
+-- the limits of the settings that the code makes, which no law asks for
+pub record IsSmall (setting : Setting) : Type 0 where
+  pub sizes : AreSmall setting.sizes
+  pub last : setting.last ≤ MOST_PHASES
 
 abbrev pub are_phases : ℕ → ℕ → Bool
 are_phases first last = nat_le 1 first && (nat_le first last && nat_le last MOST_PHASES)

@@ -2,7 +2,7 @@
 
 ghost use Rattle.std.specs.Prelude.{◌≡◌, ◌≤◌, length};
 ghost use Rattle.caller_parts.specs.declared.limits.TheConstants.{MOST_PHASES};
-ghost use Rattle.caller_parts.specs.Settings.{setting_or_fault, have_slots, HaveSlots, IsSetting};
+ghost use Rattle.caller_parts.specs.Settings.{setting_or_fault, have_slots, HaveSlots, IsSetting, IsSmall};
 
 use crate::limits::MOST_PHASES;
 use oa_words::shape::Shape;
@@ -39,13 +39,15 @@ pub struct Setting {
 }
 
 impl Model for Setting {
-    ghost use Rattle.caller_parts.specs.Settings.{Setting as Told, IsSetting};
+    ghost use Rattle.caller_parts.specs.Settings.{Setting as Told, IsSetting, IsSmall};
 
     ghost Value = { Told };
 
     ghost view = { λ s. record { reclamation = s.reclamation; sizes = s.shape; first = s.first; last = s.last; nodes = s.nodes } };
 
-    ghost invariant = { λ s. IsSetting (record { reclamation = s.reclamation; sizes = s.shape; first = s.first; last = s.last; nodes = s.nodes }) };
+    ghost invariant = { λ s.
+        IsSetting (record { reclamation = s.reclamation; sizes = s.shape; first = s.first; last = s.last; nodes = s.nodes })
+        × IsSmall (record { reclamation = s.reclamation; sizes = s.shape; first = s.first; last = s.last; nodes = s.nodes }) };
 }
 
 /// Whether each kind has a slot for each of its initial nodes.
@@ -114,6 +116,14 @@ impl Setting {
     /// What every setting keeps: a law for those who hold one. The body reads a field, which makes the invariant known.
     pub fn kept(&self)
         ensures { IsSetting self.now }
+    {
+        let _ = &self.shape;
+    }
+
+    /// The limits of every setting that the code makes: a law as `kept`.
+    #[inline(always)]
+    pub fn limits(&self)
+        ensures { IsSmall self.now }
     {
         let _ = &self.shape;
     }

@@ -1,6 +1,7 @@
 //! What a row is answered.
 
 use crate::accesses::accesses;
+use crate::announcers::announcer_row;
 use crate::callers::callers;
 use crate::entries::{entry_row, setting_row};
 use crate::targets::{read, setting_for};
@@ -37,7 +38,10 @@ fn on_target(
         return accesses(alloc, barred, &setting, row.rest, out);
     }
     match room_in(&numbers) {
-        Some(room) => callers(alloc, barred, &setting, room, row.rest, out),
+        Some(room) => {
+            let by_signs = row.kind == "signs";
+            callers(alloc, barred, &setting, room, row.rest, by_signs, out)
+        }
         None => Err(RowError::Wrong),
     }
 }
@@ -81,7 +85,8 @@ pub(crate) fn answer(
     match kind {
         "entry" => entry_row(alloc, row, out),
         "setting" => setting_row(alloc, row, out),
-        "words" | "callers" => spelled_row(alloc, named, kind, row, out),
+        "announcer" => announcer_row(alloc, row, out),
+        "words" | "callers" | "signs" => spelled_row(alloc, named, kind, row, out),
         _ => Err(RowError::Wrong),
     }
 }

@@ -6,20 +6,21 @@ ghost use Rattle.core_entries.specs.Callers.{BelongsTo};
 ghost use Rattle.core_entries.specs.Steps.{WordsSound};
 
 use crate::steps::{begin, entry_of, step, words_of};
-use crate::told::{add_access, add_entry};
+use crate::told::{add_entry, add_step};
 use barrier_check::Barred;
 use oa_core::{Entry, PlainWords, Setting};
 use row_replies::add_replies;
 use row_spelling::{Deed, RowError, Who, moves_in};
 use std::alloc::Global;
 
-/// A caller makes so many steps, and each access is told.
+/// A caller makes so many steps, and each is told.
 fn make_steps(
     barred: &Barred,
     setting: &Setting,
     entry: &mut Entry,
     words: &mut PlainWords,
     count: u64,
+    by_signs: bool,
     out: &mut String,
 ) -> Result<(), RowError>
     requires belongs { BelongsTo barred.now setting.now entry.old.core }
@@ -28,8 +29,8 @@ fn make_steps(
     ensures lawful { WordsSound barred.now.target setting.now words.new }
 {
     for _ in 0..count {
-        let access = step(barred, setting, entry, words);
-        add_access(out, access)?;
+        let stepped = step(barred, setting, entry, words);
+        add_step(out, by_signs, stepped)?;
     }
     Ok(())
 }
@@ -65,6 +66,7 @@ fn make_move(
     entry: &mut Entry,
     words: &mut PlainWords,
     deed: Deed,
+    by_signs: bool,
     out: &mut String,
 ) -> Result<(), RowError>
     requires belongs { BelongsTo barred.now setting.now entry.old.core }
@@ -74,7 +76,7 @@ fn make_move(
 {
     let made = match deed {
         Deed::Begins { call, with } => take_call(barred, setting, entry, call, with, out),
-        Deed::GoesOn(count) => make_steps(barred, setting, entry, words, count, out),
+        Deed::GoesOn(count) => make_steps(barred, setting, entry, words, count, by_signs, out),
     };
     made?;
     Ok(add_entry(out, entry)?)
@@ -97,6 +99,7 @@ fn act(
     last: &mut Entry,
     words: &mut PlainWords,
     moves: &[(Who, Deed)],
+    by_signs: bool,
     out: &mut String,
 ) -> Result<(), RowError>
     requires first { BelongsTo barred.now setting.now first.old.core }
@@ -105,8 +108,8 @@ fn act(
 {
     for (who, deed) in moves {
         match who {
-            Who::First => make_move(barred, setting, first, words, *deed, out)?,
-            Who::Second => make_move(barred, setting, last, words, *deed, out)?,
+            Who::First => make_move(barred, setting, first, words, *deed, by_signs, out)?,
+            Who::Second => make_move(barred, setting, last, words, *deed, by_signs, out)?,
         }
     }
     add_all_replies(out, first, last)
@@ -121,6 +124,7 @@ fn act_with_last(
     first: &mut Entry,
     words: &mut PlainWords,
     moves: &[(Who, Deed)],
+    by_signs: bool,
     out: &mut String,
 ) -> Result<(), RowError>
     requires fits { Fits barred.now.target setting.now }
@@ -129,7 +133,9 @@ fn act_with_last(
     requires lawful { WordsSound barred.now.target setting.now words.old }
 {
     let mut last = entry_of(alloc, barred, setting, number, first.spare())?;
-    act(barred, setting, first, &mut last, words, moves, out)
+    act(
+        barred, setting, first, &mut last, words, moves, by_signs, out,
+    )
 }
 
 /// What the first and the last caller of a target do on its words.
@@ -140,6 +146,7 @@ fn act_by_two(
     room: u32,
     words: &mut PlainWords,
     moves: &[(Who, Deed)],
+    by_signs: bool,
     out: &mut String,
 ) -> Result<(), RowError>
     requires fits { Fits barred.now.target setting.now }
@@ -155,6 +162,7 @@ fn act_by_two(
         &mut first,
         words,
         moves,
+        by_signs,
         out,
     )
 }
@@ -166,11 +174,14 @@ pub(crate) fn callers(
     setting: &Setting,
     room: u32,
     moves: &str,
+    by_signs: bool,
     out: &mut String,
 ) -> Result<(), RowError>
     requires { Fits barred.now.target setting.now }
 {
     let moves = moves_in(alloc, moves, "calls", "steps")?;
     let mut words = words_of(alloc, barred, setting)?;
-    act_by_two(alloc, barred, setting, room, &mut words, &moves, out)
+    act_by_two(
+        alloc, barred, setting, room, &mut words, &moves, by_signs, out,
+    )
 }

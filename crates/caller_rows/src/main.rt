@@ -3,17 +3,21 @@
 //! `lines NAME SPELLING` names lines that the rows below it begin with.
 //!
 //! - `entry NUMBER ROOM OTHER`: an entry as it is made, and after it got another number.
+//! - `announcer NUMBER ROOM OTHER`: the same of an entry under epochs.
 //! - `setting CALLERS SLOTS FIELDS ROOTS FIRST LAST NODES`: what a setting tells, or why it is refused.
 //! - `words CALLERS SLOTS FIRST LAST, ACCESS, .. < TEXT`: the words at the start, and what accesses to them find one after another:
 //!   `load AT`, `store AT WORD`, `exchange AT EXPECTED REPLACEMENT` and `max AT WORD`.
 //! - `callers CALLERS SLOTS FIRST LAST ROOM, MOVE, .. < TEXT`: the accesses of callers of the compiled text, and how their entries
 //!   stand after each move: `first calls OP ARGUMENT`, `first steps COUNT`, and the same of `second`. At the end come the replies.
+//! - `signs CALLERS SLOTS FIRST LAST ROOM, MOVE, .. < TEXT`: the same callers, and of each step in place of its access whether it is a load,
+//!   a check or an exchange of the text, or another, and what it tells the source machine.
 //!
 //! A target owns much, and is dropped by a call of `drop`. That is one call to prove. A drop at the end of a scope would be proved part by
 //! part.
 #![tactic(auto)]
 
 mod accesses;
+mod announcers;
 mod answer;
 mod callers;
 mod entries;

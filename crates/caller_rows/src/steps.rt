@@ -12,7 +12,7 @@ ghost use Rattle.core_entries.specs.Steps.{WordsSound};
 use barrier_check::Barred;
 use caller_parts::Reclamation;
 use oa_core::laws::runs_in_row;
-use oa_core::{Call, Entry, PlainWords, Port, Setting};
+use oa_core::{Call, Entry, PlainWords, Port, Setting, Signs, StepKind};
 use phase_pools::access::Access;
 use std::alloc::{AllocError, Global};
 use target_code::target::TargetOp;
@@ -101,13 +101,21 @@ pub(crate) fn begin(barred: &Barred, setting: &Setting, entry: &mut Entry, op: u
     }
 }
 
-/// A step of a caller that runs, and the access that it made. If the caller is idle, there is none.
+/// What a step of a caller was: its access, the kind of that access if turns count it, and what it tells the source machine.
+#[derive(Drop)]
+pub(crate) struct Stepped {
+    pub(crate) access: Access,
+    pub(crate) kind: Option<StepKind>,
+    pub(crate) signs: Signs,
+}
+
+/// A step of a caller that runs. If the caller is idle, there is none.
 pub(crate) fn step(
     barred: &Barred,
     setting: &Setting,
     entry: &mut Entry,
     words: &mut PlainWords,
-) -> Option<Access>
+) -> Option<Stepped>
     requires belongs { BelongsTo barred.now setting.now entry.old.core }
     requires lawful { WordsSound barred.now.target setting.now words.old }
     ensures belongs { BelongsTo barred.now setting.now entry.new.core }
@@ -118,9 +126,15 @@ pub(crate) fn step(
     match entry.pending(barred, setting) {
         None => None,
         Some(access) => {
+            let kind = entry.next_kind(barred, setting);
             let word = words.access(access);
+            let signs = entry.signs(barred, setting, word);
             entry.accept(barred, setting, word);
-            Some(access)
+            Some(Stepped {
+                access,
+                kind,
+                signs,
+            })
         }
     }
 }

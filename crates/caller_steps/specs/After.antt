@@ -418,7 +418,7 @@ accepted by target setting word e (Retires retirement go) = retired_on by target
 accepted by target setting word e Restarts = restart_cleared target setting.sizes e
 accepted by target setting word e (Clears next) = quiet (then_cleared target setting.sizes next e)
 accepted by target setting word e (Claims claim) =
-    claimed by target (claim_accepts setting.sizes setting.last claim word) (claim_counted (claim_takes claim word) e)
+    claimed by target (claim_accepts setting.sizes setting.last claim word) (claim_counted (claim_takes setting.sizes claim word) e)
 accepted by target setting word e (Zeroes k field) = zeroed by target setting.sizes k field e
 accepted by target setting word e (Announces announcing) = announced target setting.sizes announcing word e
 

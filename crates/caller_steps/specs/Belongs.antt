@@ -148,12 +148,13 @@ abbrev pub scheme_of : Reclamation → ℕ → Scheme
 scheme_of Optimistic c = Warned
 scheme_of Epochs c = Announced c
 
--- its kind is one of the row's, and its sweeps go by the setting's scheme. Its sweep belongs, whether it is under way or has ended: the slots and
--- phases of one that has ended stay with the claim that looks again
+-- its kind is one of the row's, its sweeps go by the setting's scheme, and its heads are those of the row. Its sweep belongs, whether it is under
+-- way or has ended: the slots and phases of one that has ended stay with the claim that looks again
 abbrev pub ClaimBelongs : Setting → ℕ → Claim → Type 0
 ClaimBelongs setting c claim = record {
   kind : claim.kind < length setting.sizes.kinds;
   scheme : claim.sweep.scheme ≡ scheme_of setting.reclamation c;
+  tops : claim.sweep.tops ≡ setting.sizes.tops;
   stands : ClaimStands setting claim.sweep.scheme claim.kind claim.stage;
   sweep : SweepBelongs setting claim.sweep;
 }

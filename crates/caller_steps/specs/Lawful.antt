@@ -39,7 +39,7 @@ LawfulStatus last word = IsStatus last word
 
 -- a head with a phase that isn't past the last, and on top a slot of its kind or none
 abbrev pub LawfulHead : Setting → ℕ → ℕ → Type 0
-LawfulHead setting t word = ((head_parts word).phase ≤ setting.last) × IsNullOrOf setting.sizes t (head_parts word).top
+LawfulHead setting t word = ((head_parts setting.sizes.tops word).phase ≤ setting.last) × IsNullOrOf setting.sizes t (head_parts setting.sizes.tops word).top
 
 -- Of a place, which no caller accesses, any word is, and so of a root that isn't declared, or of a field that the slot's kind doesn't have.
 -- Null has no node: each of its fields is 0, so that a load through null finds null, or the number 0. A slot's fields are those of its kind,

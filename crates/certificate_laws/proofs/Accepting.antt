@@ -10,7 +10,7 @@ use Rattle.source_machine.specs.declared.state.SourceCaller.{SourceCaller}
 use Rattle.source_machine.specs.declared.state.SourceMachine.{SourceMachine}
 use Rattle.source_machine.specs.State.{idle_caller, source_start}
 use Rattle.source_machine.specs.Run.{IsSourceRun, source_replies}
-use Rattle.source_machine.specs.Proper.{IsProper}
+use Rattle.source_machine.specs.Proper.{IsProperFor}
 use Rattle.documents.specs.declared.document.ScriptCall.{ScriptCall}
 use Rattle.caller_parts.specs.declared.call.Call.{Call}
 use Rattle.caller_parts.specs.declared.routine.Routine.{Routine}
@@ -50,7 +50,7 @@ source_rests t s d x holds at =
 none_later : (n c : ℕ) → n ≤ c → slice_get (replicate n idle_caller) c ≡ None
 none_later n c past = slice_get_past (replicate n idle_caller) c (let count = length-replicate n idle_caller in omega (arith, count, past))
 
-module _ (pair : Paired) (setting : Setting) (sound : IsSound pair) (own : IsSetting setting) (fits : Fits pair.target setting) (optimistic : setting.reclamation ≡ Optimistic) (proper : IsProper pair.source)
+module _ (pair : Paired) (setting : Setting) (sound : IsSound pair) (own : IsSetting setting) (fits : Fits pair.target setting) (optimistic : setting.reclamation ≡ Optimistic) (proper : IsProperFor setting.sizes.callers pair.source)
     (lines : List (List ScriptCall)) (scripts : List (List Call)) (fuel : ℕ) (events : List CoreEvent) (state : CoreState) (some : 1 ≤ fuel) (count : length lines ≡ setting.sizes.callers)
     (spelled : Spell pair.source.ops lines scripts) (complete : IsCompleteRun pair.target setting scripts fuel events state) where
   abbrev events_of : List SourceEvent
@@ -134,12 +134,11 @@ module _ (pair : Paired) (setting : Setting) (sound : IsSound pair) (own : IsSet
 
   pub accepted : verdict_on pair.source lines events_of (replies_in state) ≡ Accepted
   accepted =
-      let few = source.few in
       let first = source.some in
       let many = count in
       let entries = entries_count in
       let claims : length (replies_in state) ≡ length lines = (let same = length-map state.entries replies_of in omega (arith, same, many, entries)) in
-      (accepted_is_true pair.source lines events_of (replies_in state) (omega (arith, first, many)) (omega (arith, few, many)) claims).1 is_true
+      (accepted_is_true pair.source lines events_of (replies_in state) (omega (arith, first, many)) claims).1 is_true
 
 pub are_accepted : (pair : Paired) (setting : Setting) → IsSound pair → IsSetting setting → Fits pair.target setting → setting.reclamation ≡ Optimistic → RunsAreAccepted pair.target pair.source setting
 are_accepted pair setting sound own fits optimistic proper lines scripts fuel events state some count spelled complete =

@@ -4,7 +4,7 @@ use Rattle.norm_lang.specs.declared.text.Op.{Op}
 use Rattle.norm_lang.specs.declared.text.Text.{Text}
 use Rattle.target_code.specs.declared.target.Target.{Target}
 use Rattle.norm_lang.specs.declared.reply.SourceReply.{SourceReply}
-use Rattle.source_machine.specs.Proper.{IsProper}
+use Rattle.source_machine.specs.Proper.{IsProperFor}
 use Rattle.documents.specs.declared.document.ScriptCall.{ScriptCall}
 use Rattle.caller_parts.specs.declared.call.Call.{Call}
 use Rattle.caller_parts.specs.Settings.{Setting}
@@ -36,6 +36,6 @@ AcceptsRuns target text setting = (lines : List (List ScriptCall)) (scripts : Li
     → length lines ≡ setting.sizes.callers → Spell text.ops lines scripts → IsCompleteRun target setting scripts fuel events state
     → verdict_on text lines (image target text setting events) (replies_in state) ≡ Accepted
 
--- it does so if the text is proper
+-- it does so if the text is proper for the setting's callers
 abbrev pub RunsAreAccepted : Target → Text → Setting → Type 0
-RunsAreAccepted target text setting = IsProper text → AcceptsRuns target text setting
+RunsAreAccepted target text setting = IsProperFor setting.sizes.callers text → AcceptsRuns target text setting

@@ -5,7 +5,8 @@ use Rattle.std.proofs.lemmas.Bool.Decides.{nat_tests, eqb_tells}
 use Rattle.oa_words.specs.Words.{Word, Phase, Status, Head, Link, Sizes, SlotRange, slot_range, IsSlot}
 use Rattle.oa_words.specs.SlotKinds.{kind_of}
 use Rattle.oa_words.specs.Within.{AreKinds}
-use Rattle.oa_words.specs.Packed.{head_word, head_parts}
+use Rattle.oa_words.specs.Packed.{HeadParts, head_word, head_parts}
+use Rattle.oa_words.proofs.Parts.{head_back}
 use Rattle.oa_words.specs.Memories.{store}
 use Rattle.oa_words.proofs.KindRanges.{kind_small}
 use Rattle.chain_laws.specs.Memories.{put}
@@ -100,7 +101,7 @@ on_top n k m owner t (j ∷ below) some linked stands =
     let at : times t (t ∷ below) ≡ once_in n k t (owner t) = ap (λ (i : ℕ). times t (i ∷ below)) linked.0 ∙ stands t in
     in_kind n k t (owner t) (λ z. let one : suc (times t below) ≡ 0 = sym (times_here t below) ∙ (at ∙ z) in let no : ⊥ = omega (arith, one) in no)
 
-pub top_chained : (n : Sizes) (m : Word → ℕ) (h : Hands) (k t : ℕ) → k < length n.kinds → PoolHolds n m h → top m k ≡ t → t ≢ 0 → (h.owner t ≡ Chained) × (kind_of n t ≡ k)
+pub top_chained : (n : Sizes) (m : Word → ℕ) (h : Hands) (k t : ℕ) → k < length n.kinds → PoolHolds n m h → top n.tops m k ≡ t → t ≢ 0 → (h.owner t ≡ Chained) × (kind_of n t ≡ k)
 top_chained n m h k t lt f is some = on_top n k m h.owner t (h.chain k) some (subst (λ (i : ℕ). IsChain (links m) i (h.chain k)) is (f.linked k lt)) (f.stands k)
 
 -- what c may hand over: it is c's, or nobody's
@@ -144,28 +145,28 @@ pub record Same (memory memory' : Word → ℕ) : Type 0 where
   pub status : (i : ℕ) → memory' (Status i) ≡ memory (Status i)
 
 -- a kind's stamp is the same if its head is
-same_stamp : (memory memory' : Word → ℕ) (k : ℕ) → memory' (Head k) ≡ memory (Head k) → stamp memory' k ≡ stamp memory k
-same_stamp memory memory' k is = ap (λ (w : ℕ). (head_parts w).phase) is
+same_stamp : (tops : ℕ) (memory memory' : Word → ℕ) (k : ℕ) → memory' (Head k) ≡ memory (Head k) → stamp tops memory' k ≡ stamp tops memory k
+same_stamp tops memory memory' k is = ap (λ (w : ℕ). (head_parts tops w).phase) is
 
 -- and its chain still hangs on it if its links are the same
-same_linked : (memory memory' : Word → ℕ) (k : ℕ) (chain : List ℕ) → memory' (Head k) ≡ memory (Head k) → ((i : ℕ) → times i chain ≢ 0 → memory' (Link i) ≡ memory (Link i))
-    → IsChain (links memory) (top memory k) chain → IsChain (links memory') (top memory' k) chain
-same_linked memory memory' k chain is same linked =
-    chain_same (links memory) (links memory') (top memory' k) chain same (subst (λ (w : ℕ). IsChain (links memory) (head_parts w).top chain) (sym is) linked)
+same_linked : (tops : ℕ) (memory memory' : Word → ℕ) (k : ℕ) (chain : List ℕ) → memory' (Head k) ≡ memory (Head k) → ((i : ℕ) → times i chain ≢ 0 → memory' (Link i) ≡ memory (Link i))
+    → IsChain (links memory) (top tops memory k) chain → IsChain (links memory') (top tops memory' k) chain
+same_linked tops memory memory' k chain is same linked =
+    chain_same (links memory) (links memory') (top tops memory' k) chain same (subst (λ (w : ℕ). IsChain (links memory) (head_parts tops w).top chain) (sym is) linked)
 
 pub fine_same : (n : Sizes) (memory memory' : Word → ℕ) (hands : Hands) → Same memory memory' → PoolHolds n memory hands → PoolHolds n memory' hands
 fine_same n memory memory' hands same f = record {
-  stamped = λ k lt. (let is = same_stamp memory memory' k (same.head k) in let low = f.stamped k lt in let up = same.phase in omega (arith, is, low, up));
-  linked = λ k lt. same_linked memory memory' k (hands.chain k) (same.head k) (λ i some. same.link i) (f.linked k lt);
+  stamped = λ k lt. (let is = same_stamp n.tops memory memory' k (same.head k) in let low = f.stamped k lt in let up = same.phase in omega (arith, is, low, up));
+  linked = λ k lt. same_linked n.tops memory memory' k (hands.chain k) (same.head k) (λ i some. same.link i) (f.linked k lt);
   stands = f.stands;
-  slot = λ j. slot_up (slot_range n) (stamp memory (kind_of n j)) (stamp memory' (kind_of n j)) (memory Phase) (memory' Phase) j (memory (Status j)) (memory' (Status j)) (hands.owner j)
-      (let is = same_stamp memory memory' (kind_of n j) (same.head (kind_of n j)) in omega (arith, is)) same.phase (same.status j) (f.slot j);
+  slot = λ j. slot_up (slot_range n) (stamp n.tops memory (kind_of n j)) (stamp n.tops memory' (kind_of n j)) (memory Phase) (memory' Phase) j (memory (Status j)) (memory' (Status j)) (hands.owner j)
+      (let is = same_stamp n.tops memory memory' (kind_of n j) (same.head (kind_of n j)) in omega (arith, is)) same.phase (same.status j) (f.slot j);
 }
 
 pub goes_same : (n : Sizes) (c : ℕ) (memory memory' : Word → ℕ) (hands : Hands) → Same memory memory' → MayMove n c memory hands memory' hands
 goes_same n c memory memory' hands same = record {
   phase = same.phase;
-  stamped = λ k. (let is = same_stamp memory memory' k (same.head k) in omega (arith, is));
+  stamped = λ k. (let is = same_stamp n.tops memory memory' k (same.head k) in omega (arith, is));
   chained = λ j own. inl (own, same.link j);
   gone = λ q t le above. inr above;
   taken = λ j d ne own. own;
@@ -188,41 +189,41 @@ row_slot range stamped phase j word word' (Retired tag) same is = (is.0, same is
 pub fine_row : (n : Sizes) (memory memory' : Word → ℕ) (hands : Hands) → AreKinds n → memory' Phase ≡ memory Phase → ((k : ℕ) → k < length n.kinds → memory' (Head k) ≡ memory (Head k))
     → ((j : ℕ) → j ≤ n.slots → memory' (Link j) ≡ memory (Link j)) → ((j : ℕ) → j ≤ n.slots → memory' (Status j) ≡ memory (Status j)) → PoolHolds n memory hands → PoolHolds n memory' hands
 fine_row n memory memory' hands kinds phase head link status f = record {
-  stamped = λ k lt. (let is = same_stamp memory memory' k (head k lt) in let low = f.stamped k lt in omega (arith, is, low, phase));
-  linked = λ k lt. same_linked memory memory' k (hands.chain k) (head k lt) (λ i some. link i (stands_there k i some).1) (f.linked k lt);
+  stamped = λ k lt. (let is = same_stamp n.tops memory memory' k (head k lt) in let low = f.stamped k lt in omega (arith, is, low, phase));
+  linked = λ k lt. same_linked n.tops memory memory' k (hands.chain k) (head k lt) (λ i some. link i (stands_there k i some).1) (f.linked k lt);
   stands = f.stands;
-  slot = λ j. slot_up (slot_range n) (stamp memory (kind_of n j)) (stamp memory' (kind_of n j)) (memory Phase) (memory' Phase) j (memory' (Status j)) (memory' (Status j)) (hands.owner j)
-      (let is = same_stamp memory memory' (kind_of n j) (head (kind_of n j) (kind_small n j kinds)) in omega (arith, is)) (omega (arith, phase)) refl
-      (row_slot (slot_range n) (stamp memory (kind_of n j)) (memory Phase) j (memory (Status j)) (memory' (Status j)) (hands.owner j) (status j) (f.slot j));
+  slot = λ j. slot_up (slot_range n) (stamp n.tops memory (kind_of n j)) (stamp n.tops memory' (kind_of n j)) (memory Phase) (memory' Phase) j (memory' (Status j)) (memory' (Status j)) (hands.owner j)
+      (let is = same_stamp n.tops memory memory' (kind_of n j) (head (kind_of n j) (kind_small n j kinds)) in omega (arith, is)) (omega (arith, phase)) refl
+      (row_slot (slot_range n) (stamp n.tops memory (kind_of n j)) (memory Phase) j (memory (Status j)) (memory' (Status j)) (hands.owner j) (status j) (f.slot j));
 } where
   stands_there : (k i : ℕ) → times i (hands.chain k) ≢ 0 → IsSlot (slot_range n) i
-  stands_there k i some = in_chain (slot_range n) (stamp memory (kind_of n i)) (memory Phase) i (memory (Status i)) (hands.owner i)
+  stands_there k i some = in_chain (slot_range n) (stamp n.tops memory (kind_of n i)) (memory Phase) i (memory (Status i)) (hands.owner i)
       (λ z. some (f.stands k i ∙ once_none n k i (hands.owner i) z)) (f.slot i)
 
 -- ---- a slot outside the chain changes hands
 
 pub fine_handed : (n : Sizes) (memory memory' : Word → ℕ) (hands : Hands) (c j : ℕ) (o : Owner) → Near memory memory' j → IsMine c (hands.owner j) → once o ≡ 0
-    → SlotHolds (slot_range n) (stamp memory (kind_of n j)) (memory' Phase) j (memory' (Status j)) o → PoolHolds n memory hands → PoolHolds n memory' (handed hands j o)
+    → SlotHolds (slot_range n) (stamp n.tops memory (kind_of n j)) (memory' Phase) j (memory' (Status j)) o → PoolHolds n memory hands → PoolHolds n memory' (handed hands j o)
 fine_handed n memory memory' hands c j o near mine none here f = record {
-  stamped = λ k lt. (let is = same_stamp memory memory' k (near.head k) in let low = f.stamped k lt in let up = near.phase in omega (arith, is, low, up));
-  linked = λ k lt. same_linked memory memory' k (hands.chain k) (near.head k) (λ i some. near.link i) (f.linked k lt);
+  stamped = λ k lt. (let is = same_stamp n.tops memory memory' k (near.head k) in let low = f.stamped k lt in let up = near.phase in omega (arith, is, low, up));
+  linked = λ k lt. same_linked n.tops memory memory' k (hands.chain k) (near.head k) (λ i some. near.link i) (f.linked k lt);
   stands = λ k. each_put (λ i (x : Owner). times i (hands.chain k) ≡ once_in n k i x) hands.owner j o
       (f.stands k j ∙ (once_none n k j (hands.owner j) (mine_apart c (hands.owner j) mine) ∙ sym (once_none n k j o none))) (λ i ne. f.stands k i);
-  slot = each_put (λ i (x : Owner). SlotHolds (slot_range n) (stamp memory' (kind_of n i)) (memory' Phase) i (memory' (Status i)) x) hands.owner j o
-      (slot_up (slot_range n) (stamp memory (kind_of n j)) (stamp memory' (kind_of n j)) (memory' Phase) (memory' Phase) j (memory' (Status j)) (memory' (Status j)) o (stays (kind_of n j)) (omega arith) refl here)
-      (λ i ne. slot_up (slot_range n) (stamp memory (kind_of n i)) (stamp memory' (kind_of n i)) (memory Phase) (memory' Phase) i (memory (Status i)) (memory' (Status i)) (hands.owner i)
+  slot = each_put (λ i (x : Owner). SlotHolds (slot_range n) (stamp n.tops memory' (kind_of n i)) (memory' Phase) i (memory' (Status i)) x) hands.owner j o
+      (slot_up (slot_range n) (stamp n.tops memory (kind_of n j)) (stamp n.tops memory' (kind_of n j)) (memory' Phase) (memory' Phase) j (memory' (Status j)) (memory' (Status j)) o (stays (kind_of n j)) (omega arith) refl here)
+      (λ i ne. slot_up (slot_range n) (stamp n.tops memory (kind_of n i)) (stamp n.tops memory' (kind_of n i)) (memory Phase) (memory' Phase) i (memory (Status i)) (memory' (Status i)) (hands.owner i)
       (stays (kind_of n i)) near.phase (near.status i ne) (f.slot i));
 } where
-  stays : (k : ℕ) → stamp memory k ≤ stamp memory' k
-  stays k = let is = same_stamp memory memory' k (near.head k) in omega (arith, is)
+  stays : (k : ℕ) → stamp n.tops memory k ≤ stamp n.tops memory' k
+  stays k = let is = same_stamp n.tops memory memory' k (near.head k) in omega (arith, is)
 
 pub goes_handed : (n : Sizes) (c : ℕ) (memory memory' : Word → ℕ) (hands : Hands) (j : ℕ) (o : Owner) → Near memory memory' j → IsMine c (hands.owner j) → IsMine c o
-    → ((q : ℕ) → q ≤ stamp memory (kind_of n j) → ComesAbove q (hands.owner j) → ComesAbove q o) → MayMove n c memory hands memory' (handed hands j o)
+    → ((q : ℕ) → q ≤ stamp n.tops memory (kind_of n j) → ComesAbove q (hands.owner j) → ComesAbove q o) → MayMove n c memory hands memory' (handed hands j o)
 goes_handed n c memory memory' hands j o near mine new above = record {
   phase = near.phase;
-  stamped = λ k. (let is = same_stamp memory memory' k (near.head k) in omega (arith, is));
+  stamped = λ k. (let is = same_stamp n.tops memory memory' k (near.head k) in omega (arith, is));
   chained = λ i own. inl (put_other hands.owner j i o (apart c hands.owner i j Chained own mine (λ z. z)) ∙ own, near.link i);
-  gone = λ q t le is. inr (each_put (λ i (x : Owner). q ≤ stamp memory (kind_of n i) → ComesAbove q (hands.owner i) → ComesAbove q x) hands.owner j o (above q) (λ i ne low z. z) t le is);
+  gone = λ q t le is. inr (each_put (λ i (x : Owner). q ≤ stamp n.tops memory (kind_of n i) → ComesAbove q (hands.owner i) → ComesAbove q x) hands.owner j o (above q) (λ i ne low z. z) t le is);
   taken = λ i d ne own. put_other hands.owner j i o (apart c hands.owner i j (Taken d) own mine ne) ∙ own;
   pushing = λ i d s ne own. (put_other hands.owner j i o (apart c hands.owner i j (Pushing d s) own mine ne) ∙ own, near.link i);
   retiring = λ i d tag ne own. put_other hands.owner j i o (apart c hands.owner i j (Retiring d tag) own mine ne) ∙ own;
@@ -232,24 +233,32 @@ goes_handed n c memory memory' hands j o near mine new above = record {
 -- ---- the top is taken
 
 -- a word of a head tells its parts
-pub tells : (memory : Word → ℕ) (k q t : ℕ) → memory (Head k) ≡ head_word q t → t < 8192 → (stamp memory k ≡ q) × (top memory k ≡ t)
-tells memory k q t is small = (omega (arith, is, small), omega (arith, is, small))
+pub tells : (tops : ℕ) (memory : Word → ℕ) (k q t : ℕ) → memory (Head k) ≡ head_word tops q t → t < tops → (stamp tops memory k ≡ q) × (top tops memory k ≡ t)
+tells tops memory k q t is small =
+    let parts : head_parts tops (memory (Head k)) ≡ record { phase = q; top = t } = ap (head_parts tops) is ∙ head_back tops q t small in
+    (ap (λ (p : HeadParts). p.phase) parts, ap (λ (p : HeadParts). p.top) parts)
 
 -- and so does one that is stored
-pub stored_tells : (memory : Word → ℕ) (k q t : ℕ) → t < 8192 → (stamp (store memory (Head k) (head_word q t)) k ≡ q) × (top (store memory (Head k) (head_word q t)) k ≡ t)
-stored_tells memory k q t small = tells (store memory (Head k) (head_word q t)) k q t (head_here memory k (head_word q t)) small
+pub stored_tells : (tops : ℕ) (memory : Word → ℕ) (k q t : ℕ) → t < tops
+    → (stamp tops (store memory (Head k) (head_word tops q t)) k ≡ q) × (top tops (store memory (Head k) (head_word tops q t)) k ≡ t)
+stored_tells tops memory k q t small = tells tops (store memory (Head k) (head_word tops q t)) k q t (head_here memory k (head_word tops q t)) small
+
+-- the phase of a word that was made of it
+pub phase_back : (tops q t : ℕ) → t < tops → (head_parts tops (head_word tops q t)).phase ≡ q
+phase_back tops q t small = ap (λ (p : HeadParts). p.phase) (head_back tops q t small)
 
 -- if the stamp doesn't fall, none does
-pub stamps_rise : (memory : Word → ℕ) (k q t : ℕ) → t < 8192 → stamp memory k ≤ q → (i : ℕ) → stamp memory i ≤ stamp (store memory (Head k) (head_word q t)) i
-stamps_rise memory k q t small up = each_head (λ i w. stamp memory i ≤ (head_parts w).phase) memory k (head_word q t)
-    (omega (arith, small, up)) (λ i ne. omega arith)
+pub stamps_rise : (tops : ℕ) (memory : Word → ℕ) (k q t : ℕ) → t < tops → stamp tops memory k ≤ q
+    → (i : ℕ) → stamp tops memory i ≤ stamp tops (store memory (Head k) (head_word tops q t)) i
+stamps_rise tops memory k q t small up = each_head (λ i w. stamp tops memory i ≤ (head_parts tops w).phase) memory k (head_word tops q t)
+    (let phase = phase_back tops q t small in omega (arith, phase, up)) (λ i ne. omega arith)
 
 -- a kind's head as a claim expects it, over a slot of the chain with this link
 pub record Expected (n : Sizes) (memory : Word → ℕ) (hands : Hands) (k q t next : ℕ) : Type 0 where
-  pub slots : n.slots ≤ 4096
+  pub slots : n.slots < n.tops
   pub kind : k < length n.kinds
-  pub head : memory (Head k) ≡ head_word q t
-  pub small : t < 8192
+  pub head : memory (Head k) ≡ head_word n.tops q t
+  pub small : t < n.tops
   pub some : t ≢ 0
   pub own : hands.owner t ≡ Chained
   pub of_kind : kind_of n t ≡ k
@@ -257,16 +266,16 @@ pub record Expected (n : Sizes) (memory : Word → ℕ) (hands : Hands) (k q t n
 
 -- what follows if the top is taken off a chain
 record TakenOff (n : Sizes) (memory : Word → ℕ) (owner : ℕ → Owner) (c k t next : ℕ) (below : List ℕ) : Type 0 where
-  small : next < 8192
+  small : next < n.tops
   linked : IsChain (links memory) next below
   stands : (j : ℕ) → times j below ≡ once_in n k j (put owner t (Taken c) j)
 
-next_small : (n : Sizes) (memory : Word → ℕ) (owner : ℕ → Owner) (k t next : ℕ) (below : List ℕ) → n.slots ≤ 4096 → IsChain (links memory) next below
-    → ((j : ℕ) → times j (t ∷ below) ≡ once_in n k j (owner j)) → ((j : ℕ) → SlotHolds (slot_range n) (stamp memory (kind_of n j)) (memory Phase) j (memory (Status j)) (owner j)) → next < 8192
-next_small n memory owner k t next [] le is stands slot = omega (arith, is)
+next_small : (n : Sizes) (memory : Word → ℕ) (owner : ℕ → Owner) (k t next : ℕ) (below : List ℕ) → n.slots < n.tops → IsChain (links memory) next below
+    → ((j : ℕ) → times j (t ∷ below) ≡ once_in n k j (owner j)) → ((j : ℕ) → SlotHolds (slot_range n) (stamp n.tops memory (kind_of n j)) (memory Phase) j (memory (Status j)) (owner j)) → next < n.tops
+next_small n memory owner k t next [] le is stands slot = omega (arith, is, le)
 next_small n memory owner k t next (j ∷ below) le is stands slot =
     let some : once (owner j) ≢ 0 = λ z. times_below_top (stands j ∙ once_none n k j (owner j) z) in
-    let within = in_chain (slot_range n) (stamp memory (kind_of n j)) (memory Phase) j (memory (Status j)) (owner j) some (slot j) in
+    let within = in_chain (slot_range n) (stamp n.tops memory (kind_of n j)) (memory Phase) j (memory (Status j)) (owner j) some (slot j) in
     let same : next ≡ j = is.0 in
     omega (arith, within.1, le, same)
   where
@@ -276,12 +285,12 @@ next_small n memory owner k t next (j ∷ below) le is stands slot =
         (λ (e : ((t == j) ≡ false) × (t ≢ j)). let one : times j (t ∷ (j ∷ below)) ≡ suc (times j below) = rw e.0 (times_here j below) in let no : ⊥ = omega (arith, one, z) in no)
         (eqb_tells t j)
 
-take_off : (n : Sizes) (memory : Word → ℕ) (hands : Hands) (c k q t next : ℕ) (chain : List ℕ) → Expected n memory hands k q t next → IsChain (links memory) (top memory k) chain
-    → ((j : ℕ) → times j chain ≡ once_in n k j (hands.owner j)) → ((j : ℕ) → SlotHolds (slot_range n) (stamp memory (kind_of n j)) (memory Phase) j (memory (Status j)) (hands.owner j))
+take_off : (n : Sizes) (memory : Word → ℕ) (hands : Hands) (c k q t next : ℕ) (chain : List ℕ) → Expected n memory hands k q t next → IsChain (links memory) (top n.tops memory k) chain
+    → ((j : ℕ) → times j chain ≡ once_in n k j (hands.owner j)) → ((j : ℕ) → SlotHolds (slot_range n) (stamp n.tops memory (kind_of n j)) (memory Phase) j (memory (Status j)) (hands.owner j))
     → TakenOff n memory hands.owner c k t next (below_top chain)
-take_off n memory hands c k q t next [] e is stands slot = absurd (e.some (sym (tells memory k q t e.head e.small).1 ∙ is))
+take_off n memory hands c k q t next [] e is stands slot = absurd (e.some (sym (tells n.tops memory k q t e.head e.small).1 ∙ is))
 take_off n memory hands c k q t next (j ∷ below) e is stands slot =
-    let same : j ≡ t = sym is.0 ∙ (tells memory k q t e.head e.small).1 in
+    let same : j ≡ t = sym is.0 ∙ (tells n.tops memory k q t e.head e.small).1 in
     let at : (i : ℕ) → times i (t ∷ below) ≡ once_in n k i (hands.owner i) = subst (λ (x : ℕ). (i : ℕ) → times i (x ∷ below) ≡ once_in n k i (hands.owner i)) same stands in
     let linked : IsChain (links memory) next below = subst (λ (x : ℕ). IsChain (links memory) x below) (ap (links memory) same ∙ e.link) is.2 in
     record {
@@ -303,38 +312,38 @@ elsewhere n k i j o p ne same =
     once_elsewhere n k i o other ∙ sym (once_elsewhere n k i p other)
 
 pub fine_taken : (n : Sizes) (memory : Word → ℕ) (hands : Hands) (c k q t next : ℕ) → Expected n memory hands k q t next → PoolHolds n memory hands
-    → PoolHolds n (store memory (Head k) (head_word q next)) (without_top hands k c t)
+    → PoolHolds n (store memory (Head k) (head_word n.tops q next)) (without_top hands k c t)
 fine_taken n memory hands c k q t next e f =
     let off = take_off n memory hands c k q t next (hands.chain k) e (f.linked k e.kind) (f.stands k) f.slot in
-    let here = tells memory k q t e.head e.small in
-    let there = stored_tells memory k q next off.small in
+    let here = tells n.tops memory k q t e.head e.small in
+    let there = stored_tells n.tops memory k q next off.small in
     record {
-      stamped = each_head (λ i w. i < length n.kinds → (head_parts w).phase ≤ memory Phase) memory k (head_word q next)
-          (λ lt. (let low = f.stamped k lt in let small = off.small in let is = here.0 in omega (arith, small, low, is))) (λ i ne lt. f.stamped i lt);
-      linked = each_put (λ i (chain : List ℕ). i < length n.kinds → IsChain (links memory) (top (store memory (Head k) (head_word q next)) i) chain) hands.chain k (below_top (hands.chain k))
+      stamped = each_head (λ i w. i < length n.kinds → (head_parts n.tops w).phase ≤ memory Phase) memory k (head_word n.tops q next)
+          (λ lt. (let low = f.stamped k lt in let phase = phase_back n.tops q next off.small in let is = here.0 in omega (arith, phase, low, is))) (λ i ne lt. f.stamped i lt);
+      linked = each_put (λ i (chain : List ℕ). i < length n.kinds → IsChain (links memory) (top n.tops (store memory (Head k) (head_word n.tops q next)) i) chain) hands.chain k (below_top (hands.chain k))
           (λ lt. subst (λ (x : ℕ). IsChain (links memory) x (below_top (hands.chain k))) (sym there.1) off.linked)
-          (λ i ne lt. subst (λ (w : ℕ). IsChain (links memory) (head_parts w).top (hands.chain i)) (sym (head_other memory k (head_word q next) i ne)) (f.linked i lt));
+          (λ i ne lt. subst (λ (w : ℕ). IsChain (links memory) (head_parts n.tops w).top (hands.chain i)) (sym (head_other memory k (head_word n.tops q next) i ne)) (f.linked i lt));
       stands = each_put (λ i (chain : List ℕ). (j : ℕ) → times j chain ≡ once_in n i j (put hands.owner t (Taken c) j)) hands.chain k (below_top (hands.chain k))
           off.stands
           (λ i ne. each_put (λ j (x : Owner). times j (hands.chain i) ≡ once_in n i j x) hands.owner t (Taken c)
           (f.stands i t ∙ elsewhere n i t t (hands.owner t) (Taken c) (λ z. ne (sym z ∙ e.of_kind)) refl) (λ j differ. f.stands i j));
-      slot = each_put (λ i (x : Owner). SlotHolds (slot_range n) (stamp (store memory (Head k) (head_word q next)) (kind_of n i)) (memory Phase) i (memory (Status i)) x) hands.owner t (Taken c)
-          (ready_taken (slot_range n) (stamp (store memory (Head k) (head_word q next)) (kind_of n t)) (memory Phase) t (memory (Status t)) c (hands.owner t) e.own (up off t))
+      slot = each_put (λ i (x : Owner). SlotHolds (slot_range n) (stamp n.tops (store memory (Head k) (head_word n.tops q next)) (kind_of n i)) (memory Phase) i (memory (Status i)) x) hands.owner t (Taken c)
+          (ready_taken (slot_range n) (stamp n.tops (store memory (Head k) (head_word n.tops q next)) (kind_of n t)) (memory Phase) t (memory (Status t)) c (hands.owner t) e.own (up off t))
           (λ i ne. up off i);
     }
   where
     up : TakenOff n memory hands.owner c k t next (below_top (hands.chain k)) → (i : ℕ)
-        → SlotHolds (slot_range n) (stamp (store memory (Head k) (head_word q next)) (kind_of n i)) (memory Phase) i (memory (Status i)) (hands.owner i)
-    up off i = slot_up (slot_range n) (stamp memory (kind_of n i)) (stamp (store memory (Head k) (head_word q next)) (kind_of n i)) (memory Phase) (memory Phase) i (memory (Status i)) (memory (Status i)) (hands.owner i)
-        (stamps_rise memory k q next off.small (let here = (tells memory k q t e.head e.small).0 in omega (arith, here)) (kind_of n i)) (omega arith) refl (f.slot i)
+        → SlotHolds (slot_range n) (stamp n.tops (store memory (Head k) (head_word n.tops q next)) (kind_of n i)) (memory Phase) i (memory (Status i)) (hands.owner i)
+    up off i = slot_up (slot_range n) (stamp n.tops memory (kind_of n i)) (stamp n.tops (store memory (Head k) (head_word n.tops q next)) (kind_of n i)) (memory Phase) (memory Phase) i (memory (Status i)) (memory (Status i)) (hands.owner i)
+        (stamps_rise n.tops memory k q next off.small (let here = (tells n.tops memory k q t e.head e.small).0 in omega (arith, here)) (kind_of n i)) (omega arith) refl (f.slot i)
 
 pub goes_taken : (n : Sizes) (memory : Word → ℕ) (hands : Hands) (c k q t next : ℕ) → Expected n memory hands k q t next → PoolHolds n memory hands
-    → MayMove n c memory hands (store memory (Head k) (head_word q next)) (without_top hands k c t)
+    → MayMove n c memory hands (store memory (Head k) (head_word n.tops q next)) (without_top hands k c t)
 goes_taken n memory hands c k q t next e f =
     let off = take_off n memory hands c k q t next (hands.chain k) e (f.linked k e.kind) (f.stands k) f.slot in
     record {
       phase = omega arith;
-      stamped = stamps_rise memory k q next off.small (let here = (tells memory k q t e.head e.small).0 in omega (arith, here));
+      stamped = stamps_rise n.tops memory k q next off.small (let here = (tells n.tops memory k q t e.head e.small).0 in omega (arith, here));
       chained = λ i own. ⊎_elim
           (λ (z : i ≡ t). inr (ap (put hands.owner t (Taken c)) z ∙ put_same hands.owner t (Taken c)))
           (λ (ne : i ≢ t). inl (put_other hands.owner t i (Taken c) ne ∙ own, refl))
@@ -355,7 +364,7 @@ goes_taken n memory hands c k q t next e f =
 pub fine_linked : (n : Sizes) (memory : Word → ℕ) (hands : Hands) (c s j x : ℕ) → hands.owner j ≡ Pushing c s → PoolHolds n memory hands → PoolHolds n (store memory (Link j) x) hands
 fine_linked n memory hands c s j x own f = record {
   stamped = f.stamped;
-  linked = λ k lt. chain_same (links memory) (links (store memory (Link j) x)) (top memory k) (hands.chain k) (λ i some. link_other memory j x i (λ z. some (none k i z))) (f.linked k lt);
+  linked = λ k lt. chain_same (links memory) (links (store memory (Link j) x)) (top n.tops memory k) (hands.chain k) (λ i some. link_other memory j x i (λ z. some (none k i z))) (f.linked k lt);
   stands = f.stands;
   slot = f.slot;
 } where
@@ -376,9 +385,9 @@ goes_linked n memory hands c s j x own = record {
 
 -- the head of a slot's kind is as a push expects it, and the slot is linked to the top
 pub record Pushes (n : Sizes) (memory : Word → ℕ) (hands : Hands) (c s k j q t : ℕ) : Type 0 where
-  pub slots : n.slots ≤ 4096
-  pub head : memory (Head k) ≡ head_word q t
-  pub small : t < 8192
+  pub slots : n.slots < n.tops
+  pub head : memory (Head k) ≡ head_word n.tops q t
+  pub small : t < n.tops
   pub own : hands.owner j ≡ Pushing c s
   pub of_kind : kind_of n j ≡ k
   pub link : memory (Link j) ≡ t
@@ -387,48 +396,48 @@ pushing_slot : (range : SlotRange) (stamped phase j word c s : ℕ) (o : Owner) 
 pushing_slot range stamped phase j word c s o own is = subst (λ (x : Owner). SlotHolds range stamped phase j word x) own is
 
 pub fine_pushed : (n : Sizes) (memory : Word → ℕ) (hands : Hands) (c s k j q t : ℕ) → Pushes n memory hands c s k j q t → PoolHolds n memory hands
-    → PoolHolds n (store memory (Head k) (head_word (max q s) j)) (with_top hands k j)
+    → PoolHolds n (store memory (Head k) (head_word n.tops (max q s) j)) (with_top hands k j)
 fine_pushed n memory hands c s k j q t e f =
-    let here = tells memory k q t e.head e.small in
-    let slot = pushing_slot (slot_range n) (stamp memory (kind_of n j)) (memory Phase) j (memory (Status j)) c s (hands.owner j) e.own (f.slot j) in
-    let low : j < 8192 = (let within = slot.0.1 in let most = e.slots in omega (arith, within, most)) in
-    let there = stored_tells memory k (max q s) j low in
-    let m' : Word → ℕ = store memory (Head k) (head_word (max q s) j) in
+    let here = tells n.tops memory k q t e.head e.small in
+    let slot = pushing_slot (slot_range n) (stamp n.tops memory (kind_of n j)) (memory Phase) j (memory (Status j)) c s (hands.owner j) e.own (f.slot j) in
+    let low : j < n.tops = (let within = slot.0.1 in let most = e.slots in omega (arith, within, most)) in
+    let there = stored_tells n.tops memory k (max q s) j low in
+    let m' : Word → ℕ = store memory (Head k) (head_word n.tops (max q s) j) in
     let none : (i : ℕ) → once_in n i j (hands.owner j) ≡ 0 = (λ i. once_none n i j (hands.owner j) (ap once e.own)) in
-    let up : (i : ℕ) → stamp memory i ≤ stamp m' i = stamps_rise memory k (max q s) j low (let is = here.0 in omega (arith, is)) in
+    let up : (i : ℕ) → stamp n.tops memory i ≤ stamp n.tops m' i = stamps_rise n.tops memory k (max q s) j low (let is = here.0 in omega (arith, is)) in
     record {
-      stamped = each_head (λ i w. i < length n.kinds → (head_parts w).phase ≤ memory Phase) memory k (head_word (max q s) j)
-          (λ lt. (let old = f.stamped k lt in let is = here.0 in let new = slot.2 in omega (arith, old, is, new, low))) (λ i ne lt. f.stamped i lt);
-      linked = each_put (λ i (chain : List ℕ). i < length n.kinds → IsChain (links memory) (top m' i) chain) hands.chain k (j ∷ hands.chain k)
+      stamped = each_head (λ i w. i < length n.kinds → (head_parts n.tops w).phase ≤ memory Phase) memory k (head_word n.tops (max q s) j)
+          (λ lt. (let old = f.stamped k lt in let is = here.0 in let new = slot.2 in let phase = phase_back n.tops (max q s) j low in omega (arith, old, is, new, phase))) (λ i ne lt. f.stamped i lt);
+      linked = each_put (λ i (chain : List ℕ). i < length n.kinds → IsChain (links memory) (top n.tops m' i) chain) hands.chain k (j ∷ hands.chain k)
           (λ lt. (there.1, (λ z. let some = slot.0.0 in let no : ⊥ = omega (arith, z, some) in no), subst (λ (x : ℕ). IsChain (links memory) x (hands.chain k)) (here.1 ∙ sym e.link) (f.linked k lt)))
-          (λ i ne lt. subst (λ (w : ℕ). IsChain (links memory) (head_parts w).top (hands.chain i)) (sym (head_other memory k (head_word (max q s) j) i ne)) (f.linked i lt));
+          (λ i ne lt. subst (λ (w : ℕ). IsChain (links memory) (head_parts n.tops w).top (hands.chain i)) (sym (head_other memory k (head_word n.tops (max q s) j) i ne)) (f.linked i lt));
       stands = each_put (λ i (chain : List ℕ). (a : ℕ) → times a chain ≡ once_in n i a (put hands.owner j Chained a)) hands.chain k (j ∷ hands.chain k)
           (each_put (λ a (x : Owner). times a (j ∷ hands.chain k) ≡ once_in n k a x) hands.owner j Chained
           (times_here j (hands.chain k) ∙ (ap suc (f.stands k j ∙ none k) ∙ sym (once_here n k j Chained e.of_kind)))
           (λ a ne. times_other a j (hands.chain k) (λ z. ne (sym z)) ∙ f.stands k a))
           (λ i ne. each_put (λ a (x : Owner). times a (hands.chain i) ≡ once_in n i a x) hands.owner j Chained
           (f.stands i j ∙ elsewhere n i j j (hands.owner j) Chained (λ z. ne (sym z ∙ e.of_kind)) refl) (λ a differ. f.stands i a));
-      slot = each_put (λ i (x : Owner). SlotHolds (slot_range n) (stamp m' (kind_of n i)) (memory Phase) i (memory (Status i)) x) hands.owner j Chained
-          (slot.0, (s, slot.1, (let is = ap (stamp m') e.of_kind ∙ there.0 in omega (arith, is))))
-          (λ i ne. slot_up (slot_range n) (stamp memory (kind_of n i)) (stamp m' (kind_of n i)) (memory Phase) (memory Phase) i (memory (Status i)) (memory (Status i)) (hands.owner i) (up (kind_of n i)) (omega arith) refl (f.slot i));
+      slot = each_put (λ i (x : Owner). SlotHolds (slot_range n) (stamp n.tops m' (kind_of n i)) (memory Phase) i (memory (Status i)) x) hands.owner j Chained
+          (slot.0, (s, slot.1, (let is = ap (stamp n.tops m') e.of_kind ∙ there.0 in omega (arith, is))))
+          (λ i ne. slot_up (slot_range n) (stamp n.tops memory (kind_of n i)) (stamp n.tops m' (kind_of n i)) (memory Phase) (memory Phase) i (memory (Status i)) (memory (Status i)) (hands.owner i) (up (kind_of n i)) (omega arith) refl (f.slot i));
     }
 
 pub goes_pushed : (n : Sizes) (memory : Word → ℕ) (hands : Hands) (c s k j q t : ℕ) → Pushes n memory hands c s k j q t → PoolHolds n memory hands
-    → MayMove n c memory hands (store memory (Head k) (head_word (max q s) j)) (with_top hands k j)
+    → MayMove n c memory hands (store memory (Head k) (head_word n.tops (max q s) j)) (with_top hands k j)
 goes_pushed n memory hands c s k j q t e f =
-    let here = tells memory k q t e.head e.small in
-    let slot = pushing_slot (slot_range n) (stamp memory (kind_of n j)) (memory Phase) j (memory (Status j)) c s (hands.owner j) e.own (f.slot j) in
-    let low : j < 8192 = (let within = slot.0.1 in let most = e.slots in omega (arith, within, most)) in
-    let there = stored_tells memory k (max q s) j low in
-    let m' : Word → ℕ = store memory (Head k) (head_word (max q s) j) in
+    let here = tells n.tops memory k q t e.head e.small in
+    let slot = pushing_slot (slot_range n) (stamp n.tops memory (kind_of n j)) (memory Phase) j (memory (Status j)) c s (hands.owner j) e.own (f.slot j) in
+    let low : j < n.tops = (let within = slot.0.1 in let most = e.slots in omega (arith, within, most)) in
+    let there = stored_tells n.tops memory k (max q s) j low in
+    let m' : Word → ℕ = store memory (Head k) (head_word n.tops (max q s) j) in
     record {
       phase = omega arith;
-      stamped = stamps_rise memory k (max q s) j low (let is = here.0 in omega (arith, is));
+      stamped = stamps_rise n.tops memory k (max q s) j low (let is = here.0 in omega (arith, is));
       chained = λ i own. inl (put_other hands.owner j i Chained (other i Chained own (λ z. cc)) ∙ own, refl);
       gone = λ p i le is. ⊎_elim
           (λ (z : i ≡ j).
           let below : p < s = subst (λ (x : Owner). ComesAbove p x) (ap hands.owner z ∙ e.own) is in
-          let is : stamp m' (kind_of n i) ≡ max q s = ap (stamp m') (ap (kind_of n) z ∙ e.of_kind) ∙ there.0 in inl (omega (arith, below, is)))
+          let is : stamp n.tops m' (kind_of n i) ≡ max q s = ap (stamp n.tops m') (ap (kind_of n) z ∙ e.of_kind) ∙ there.0 in inl (omega (arith, below, is)))
           (λ (ne : i ≢ j). inr (subst (λ (x : Owner). ComesAbove p x) (sym (put_other hands.owner j i Chained ne)) is))
           (cases_eq i j);
       taken = λ i d ne own. put_other hands.owner j i Chained (other i (Taken d) own (λ z. cc)) ∙ own;

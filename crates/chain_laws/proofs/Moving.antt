@@ -12,7 +12,7 @@ use Rattle.phase_pools.specs.Pools.{Sweep}
 use Rattle.chain_laws.specs.Chains.{Owner, Chained, Taken, Hands, stamp}
 use Rattle.chain_laws.specs.Standing.{ComesAbove, Gone, Loaded, SweepStands, ClaimStands, RetireStands, MayMove}
 
-pub stable_gone : (n : Sizes) (c : ℕ) (m : Word → ℕ) (h : Hands) (m' : Word → ℕ) (h' : Hands) (q t : ℕ) → MayMove n c m h m' h' → q ≤ stamp m (kind_of n t) → Gone n m h q t → Gone n m' h' q t
+pub stable_gone : (n : Sizes) (c : ℕ) (m : Word → ℕ) (h : Hands) (m' : Word → ℕ) (h' : Hands) (q t : ℕ) → MayMove n c m h m' h' → q ≤ stamp n.tops m (kind_of n t) → Gone n m h q t → Gone n m' h' q t
 stable_gone n c m h m' h' q t g le (inl lt) = inl (let up = g.stamped (kind_of n t) in omega (arith, lt, up))
 stable_gone n c m h m' h' q t g le (inr above) = g.gone q t le above
 
@@ -29,7 +29,7 @@ stable_loaded n c m h m' h' k q t IsLinked IsLinked' g on w = (
       (λ (stays : (h'.owner t ≡ Chained) × (m' (Link t) ≡ m (Link t))). inl (stays.0, on stays.1 here.1))
       (λ (took : h'.owner t ≡ Taken c). inr (inr (subst (λ (o : Owner). ComesAbove q o) (sym took) tt)))
       (g.chained t here.0))
-      (λ (gone : Gone n m h q t). inr (stable_gone n c m h m' h' q t g (subst (λ (x : ℕ). q ≤ stamp m x) (sym w.2) w.3) gone))
+      (λ (gone : Gone n m h q t). inr (stable_gone n c m h m' h' q t g (subst (λ (x : ℕ). q ≤ stamp n.tops m x) (sym w.2) w.3) gone))
       w.4,
 )
 

@@ -8,7 +8,7 @@ use Rattle.oa_words.specs.Words.{Word, Phase, Warning, Hazard, Status, Head, Lin
 use Rattle.oa_words.specs.SlotKinds.{kind_of}
 use Rattle.oa_words.specs.Packed.{StatusParts, status_word, status_parts, head_word, head_parts}
 use Rattle.oa_words.specs.Within.{AreKinds}
-use Rattle.oa_words.proofs.Parts.{status_back}
+use Rattle.oa_words.proofs.Parts.{status_back, top_small}
 use Rattle.oa_words.proofs.KindRanges.{kind_small}
 use Rattle.phase_pools.specs.declared.access.ClaimEnd.TheVariants as ends
 use Rattle.phase_pools.specs.declared.access.SweepEnd.{SweepEnd}
@@ -22,7 +22,7 @@ use Rattle.phase_pools.specs.declared.stages.ClaimStage.TheVariants as claims
 use Rattle.phase_pools.specs.declared.stages.RetireStage.{RetireStage}
 use Rattle.phase_pools.specs.declared.stages.RetireStage.TheVariants as retires
 use Rattle.phase_pools.specs.Accesses.{word_of}
-use Rattle.phase_pools.specs.Pools.{Sweep, warn_wanted, lower, low_after, sweep_wants_at, sweep_accepts_at, sweep_goes, sweep_ends, sweep_on, warned_all, warn_next, hazard_next, status_read, made_ready, pushed, Claim, claim_wants_at, claim_accepts_at, claim_goes, claim_ends, sweep_follows, look_ended, look_begun, look_took, sweep_ended, retire_wants_at, retire_accepts_at}
+use Rattle.phase_pools.specs.Pools.{Sweep, warn_wanted, lower, low_after, sweep_wants_at, sweep_accepts_at, sweep_goes, sweep_ends, sweep_on, warned_all, warn_next, hazard_next, status_read, made_ready, pushed, Claim, claim_wants, claim_wants_at, claim_accepts, claim_accepts_at, claim_goes, claim_ends, sweep_follows, look_ended, look_begun, look_took, sweep_ended, retire_wants_at, retire_accepts_at}
 use Rattle.oa_words.specs.Memories.{store}
 use Rattle.chain_laws.specs.Memories.{put, after_access}
 use Rattle.chain_laws.specs.Chains.{Owner, Chained, Taken, Pushing, Outside, Retiring, Retired, Hands, handed, with_top, without_top, stamp, top, SlotHolds, PoolHolds}
@@ -98,8 +98,8 @@ freed : (n : Sizes) (c : ℕ) (m : Word → ℕ) (h : Hands) (s j q : ℕ) → P
     → PoolHolds n (store m (Status j) (status_word s kinds.Ready)) (handed h j (Pushing c s)) × MayMove n c m h (store m (Status j) (status_word s kinds.Ready)) (handed h j (Pushing c s))
 freed n c m h s j q f up le lt is =
     let m' : Word → ℕ = store m (Status j) (status_word s kinds.Ready) in
-    let own : h.owner j ≡ Retired q = is_retired (slot_range n) (stamp m (kind_of n j)) (m Phase) j (m (Status j)) q (h.owner j) le is (f.slot j) in
-    let slot : SlotHolds (slot_range n) (stamp m (kind_of n j)) (m Phase) j (m (Status j)) (Retired q) = subst (λ (o : Owner). SlotHolds (slot_range n) (stamp m (kind_of n j)) (m Phase) j (m (Status j)) o) own (f.slot j) in
+    let own : h.owner j ≡ Retired q = is_retired (slot_range n) (stamp n.tops m (kind_of n j)) (m Phase) j (m (Status j)) q (h.owner j) le is (f.slot j) in
+    let slot : SlotHolds (slot_range n) (stamp n.tops m (kind_of n j)) (m Phase) j (m (Status j)) (Retired q) = subst (λ (o : Owner). SlotHolds (slot_range n) (stamp n.tops m (kind_of n j)) (m Phase) j (m (Status j)) o) own (f.slot j) in
     let near : Near m m' j = record { phase = omega arith; head = λ k. refl; link = λ i. refl; status = λ i ne. status_other m j (status_word s kinds.Ready) i ne } in
     let mine : IsMine c (h.owner j) = subst (λ (o : Owner). IsMine c o) (sym own) tt in (
       fine_handed n m m' h c j (Pushing c s) near mine refl (slot.0, status_here m j (status_word s kinds.Ready), up) f,
@@ -107,8 +107,8 @@ freed n c m h s j q f up le lt is =
     )
 
 frees : (n : Sizes) (c : ℕ) (m : Word → ℕ) (h : Hands) (sweep : Sweep) (j q : ℕ) → PoolHolds n m h → SweepStands n m h c sweep.bound sweep.low (sweeps.MakeReady j q)
-    → PoolKept n c m h (after_access m (sweep_wants_at sweep.scheme (sweeps.MakeReady j q) sweep.bound)) (sweep_hands c sweep.bound (sweeps.MakeReady j q) m h)
-    (SweepNext n (after_access m (sweep_wants_at sweep.scheme (sweeps.MakeReady j q) sweep.bound)) (sweep_hands c sweep.bound (sweeps.MakeReady j q) m h) c (made_ready n sweep j q (m (Status j))).sweep (made_ready n sweep j q (m (Status j))).ended)
+    → PoolKept n c m h (after_access m (sweep_wants_at n.tops sweep.scheme (sweeps.MakeReady j q) sweep.bound)) (sweep_hands n.tops c sweep.bound (sweeps.MakeReady j q) m h)
+    (SweepNext n (after_access m (sweep_wants_at n.tops sweep.scheme (sweeps.MakeReady j q) sweep.bound)) (sweep_hands n.tops c sweep.bound (sweeps.MakeReady j q) m h) c (made_ready n sweep j q (m (Status j))).sweep (made_ready n sweep j q (m (Status j))).ended)
 frees n c m h sweep j q f w = of (m (Status j) == status_word q kinds.Retired) refl where
   of : (b : Bool) → (m (Status j) == status_word q kinds.Retired) ≡ b
       → PoolKept n c m h (store m (Status j) (if b then status_word sweep.bound kinds.Ready else m (Status j))) (if b then handed h j (Pushing c sweep.bound) else h)
@@ -119,17 +119,17 @@ frees n c m h sweep j q f w = of (m (Status j) == status_word q kinds.Retired) r
       let k = freed n c m h sweep.bound j q f w.0 w.2 (let lt = w.3 in let low = w.1 in omega (arith, lt, low)) (grind (arith, nat_tests)) in
       record { fine = k.0; goes = k.1; next = (w.0, w.1, put_same h.owner j (Pushing c sweep.bound), refl) }
 
-pushes : (n : Sizes) (c : ℕ) (m : Word → ℕ) (h : Hands) (sweep : Sweep) (k j q t : ℕ) → n.slots ≤ 4096 → PoolHolds n m h → SweepStands n m h c sweep.bound sweep.low (sweeps.PushTop k j q t)
-    → PoolKept n c m h (after_access m (sweep_wants_at sweep.scheme (sweeps.PushTop k j q t) sweep.bound)) (sweep_hands c sweep.bound (sweeps.PushTop k j q t) m h)
-    (SweepNext n (after_access m (sweep_wants_at sweep.scheme (sweeps.PushTop k j q t) sweep.bound)) (sweep_hands c sweep.bound (sweeps.PushTop k j q t) m h) c
+pushes : (n : Sizes) (c : ℕ) (m : Word → ℕ) (h : Hands) (sweep : Sweep) (k j q t : ℕ) → n.slots < n.tops → PoolHolds n m h → SweepStands n m h c sweep.bound sweep.low (sweeps.PushTop k j q t)
+    → PoolKept n c m h (after_access m (sweep_wants_at n.tops sweep.scheme (sweeps.PushTop k j q t) sweep.bound)) (sweep_hands n.tops c sweep.bound (sweeps.PushTop k j q t) m h)
+    (SweepNext n (after_access m (sweep_wants_at n.tops sweep.scheme (sweeps.PushTop k j q t) sweep.bound)) (sweep_hands n.tops c sweep.bound (sweeps.PushTop k j q t) m h) c
     (pushed n sweep j q t (m (Head k))).sweep (pushed n sweep j q t (m (Head k))).ended)
-pushes n c m h sweep k j q t most f w = of (m (Head k) == head_word q t) refl where
-  slot : SlotHolds (slot_range n) (stamp m (kind_of n j)) (m Phase) j (m (Status j)) (Pushing c sweep.bound)
-  slot = subst (λ (o : Owner). SlotHolds (slot_range n) (stamp m (kind_of n j)) (m Phase) j (m (Status j)) o) w.2 (f.slot j)
+pushes n c m h sweep k j q t most f w = of (m (Head k) == head_word n.tops q t) refl where
+  slot : SlotHolds (slot_range n) (stamp n.tops m (kind_of n j)) (m Phase) j (m (Status j)) (Pushing c sweep.bound)
+  slot = subst (λ (o : Owner). SlotHolds (slot_range n) (stamp n.tops m (kind_of n j)) (m Phase) j (m (Status j)) o) w.2 (f.slot j)
 
-  of : (b : Bool) → (m (Head k) == head_word q t) ≡ b
-      → PoolKept n c m h (store m (Head k) (if b then head_word (max q sweep.bound) j else m (Head k))) (if b then with_top h k j else h)
-      (SweepNext n (store m (Head k) (if b then head_word (max q sweep.bound) j else m (Head k))) (if b then with_top h k j else h) c
+  of : (b : Bool) → (m (Head k) == head_word n.tops q t) ≡ b
+      → PoolKept n c m h (store m (Head k) (if b then head_word n.tops (max q sweep.bound) j else m (Head k))) (if b then with_top h k j else h)
+      (SweepNext n (store m (Head k) (if b then head_word n.tops (max q sweep.bound) j else m (Head k))) (if b then with_top h k j else h) c
       (if b then sweep_on n sweep j else sweep_goes sweep (sweeps.PushHead (kind_of n j) j)).sweep (if b then sweep_on n sweep j else sweep_goes sweep (sweeps.PushHead (kind_of n j) j)).ended)
   of false is = kept_same n c m (store m (Head k) (m (Head k))) h _ (same_loaded m (Head k)) f (w.0, w.1, w.2, refl)
   of true is =
@@ -137,14 +137,14 @@ pushes n c m h sweep k j q t most f w = of (m (Head k) == head_word q t) refl wh
       record {
         fine = fine_pushed n m h c sweep.bound k j q t e f;
         goes = goes_pushed n m h c sweep.bound k j q t e f;
-        next = on_next n (store m (Head k) (head_word (max q sweep.bound) j)) (with_top h k j) c sweep j (w.0, w.1) slot.0.1;
+        next = on_next n (store m (Head k) (head_word n.tops (max q sweep.bound) j)) (with_top h k j) c sweep j (w.0, w.1) slot.0.1;
       }
 
 -- the next stage of a sweep
-pub sweep_step : (n : Sizes) (last c : ℕ) (m : Word → ℕ) (h : Hands) (sweep : Sweep) (stage : SweepStage) → n.slots ≤ 4096 → PoolHolds n m h → SweepStands n m h c sweep.bound sweep.low stage
-    → PoolKept n c m h (after_access m (sweep_wants_at sweep.scheme stage sweep.bound)) (sweep_hands c sweep.bound stage m h)
-    (SweepNext n (after_access m (sweep_wants_at sweep.scheme stage sweep.bound)) (sweep_hands c sweep.bound stage m h) c
-    (sweep_accepts_at n last sweep (m (word_of (sweep_wants_at sweep.scheme stage sweep.bound))) stage).sweep (sweep_accepts_at n last sweep (m (word_of (sweep_wants_at sweep.scheme stage sweep.bound))) stage).ended)
+pub sweep_step : (n : Sizes) (last c : ℕ) (m : Word → ℕ) (h : Hands) (sweep : Sweep) (stage : SweepStage) → n.slots < n.tops → PoolHolds n m h → SweepStands n m h c sweep.bound sweep.low stage
+    → PoolKept n c m h (after_access m (sweep_wants_at n.tops sweep.scheme stage sweep.bound)) (sweep_hands n.tops c sweep.bound stage m h)
+    (SweepNext n (after_access m (sweep_wants_at n.tops sweep.scheme stage sweep.bound)) (sweep_hands n.tops c sweep.bound stage m h) c
+    (sweep_accepts_at n last sweep (m (word_of (sweep_wants_at n.tops sweep.scheme stage sweep.bound))) stage).sweep (sweep_accepts_at n last sweep (m (word_of (sweep_wants_at n.tops sweep.scheme stage sweep.bound))) stage).ended)
 sweep_step n last c m h sweep sweeps.ReadPhase most f w = kept_same n c m (store m Phase (m Phase)) h _ (same_loaded m Phase) f (of (m Phase == last)) where
   of : (b : Bool) → SweepNext n (store m Phase (m Phase)) h c (if b then sweep_ends sweep (swept.PhasesOver (m Phase)) else sweep_goes sweep (sweeps.RaisePhase (m Phase))).sweep
       (if b then sweep_ends sweep (swept.PhasesOver (m Phase)) else sweep_goes sweep (sweeps.RaisePhase (m Phase))).ended
@@ -173,7 +173,7 @@ sweep_step n last c m h sweep (sweeps.ReadStatus j) most f w =
     (status_next n (store m (Status j) (m (Status j))) h c sweep j (status_parts (m (Status j))) (w.0, w.1) w.2)
 sweep_step n last c m h sweep (sweeps.MakeReady j q) most f w = frees n c m h sweep j q f w
 sweep_step n last c m h sweep (sweeps.PushHead k j) most f w =
-    kept_same n c m (store m (Head k) (m (Head k))) h _ (same_loaded m (Head k)) f (w.0, w.1, w.2, omega arith)
+    kept_same n c m (store m (Head k) (m (Head k))) h _ (same_loaded m (Head k)) f (w.0, w.1, w.2, top_small n.tops (m (Head k)) (omega (arith, most)))
 sweep_step n last c m h sweep (sweeps.PushLink j q t) most f w = record {
   fine = fine_linked n m h c sweep.bound j t w.2 f;
   goes = goes_linked n m h c sweep.bound j t w.2;
@@ -194,35 +194,36 @@ look_ends n m h c claim lt = of (claim.sweeps == 2) where
   of false = follows claim.sweep.scheme claim.sweeps
 
 -- a look that has loaded the head of the claim's kind: its top stands in the chain
-look_next : (n : Sizes) (m : Word → ℕ) (h : Hands) (c : ℕ) (claim : Claim) → claim.kind < length n.kinds → PoolHolds n m h
-    → ClaimNext n (store m (Head claim.kind) (m (Head claim.kind))) h c (look_begun claim (head_parts (m (Head claim.kind)))).claim (look_begun claim (head_parts (m (Head claim.kind)))).ended
-look_next n m h c claim lt f = of (top m claim.kind == 0) refl where
-  of : (b : Bool) → (top m claim.kind == 0) ≡ b → ClaimNext n (store m (Head claim.kind) (m (Head claim.kind))) h c
-      (if b then look_ended claim else claim_goes claim (claims.ReadLink (stamp m claim.kind) (top m claim.kind))).claim (if b then look_ended claim else claim_goes claim (claims.ReadLink (stamp m claim.kind) (top m claim.kind))).ended
+look_next : (n : Sizes) (m : Word → ℕ) (h : Hands) (c : ℕ) (claim : Claim) → n.slots < n.tops → claim.kind < length n.kinds → PoolHolds n m h
+    → ClaimNext n (store m (Head claim.kind) (m (Head claim.kind))) h c (look_begun claim (head_parts n.tops (m (Head claim.kind)))).claim (look_begun claim (head_parts n.tops (m (Head claim.kind)))).ended
+look_next n m h c claim most lt f = of (top n.tops m claim.kind == 0) refl where
+  of : (b : Bool) → (top n.tops m claim.kind == 0) ≡ b → ClaimNext n (store m (Head claim.kind) (m (Head claim.kind))) h c
+      (if b then look_ended claim else claim_goes claim (claims.ReadLink (stamp n.tops m claim.kind) (top n.tops m claim.kind))).claim (if b then look_ended claim else claim_goes claim (claims.ReadLink (stamp n.tops m claim.kind) (top n.tops m claim.kind))).ended
   of true is = look_ends n (store m (Head claim.kind) (m (Head claim.kind))) h c claim lt
   of false is =
-      let some : top m claim.kind ≢ 0 = grind (arith, nat_tests) in
-      let chained = top_chained n m h claim.kind (top m claim.kind) lt f refl some in
-      (lt, (some, omega arith, chained.1, (let is = head_here m claim.kind (m (Head claim.kind)) in omega (arith, is)), inl (chained.0, tt)))
+      let some : top n.tops m claim.kind ≢ 0 = grind (arith, nat_tests) in
+      let chained = top_chained n m h claim.kind (top n.tops m claim.kind) lt f refl some in
+      let stays = ap (λ (w : ℕ). (head_parts n.tops w).phase) (head_here m claim.kind (m (Head claim.kind))) in
+      (lt, (some, top_small n.tops (m (Head claim.kind)) (omega (arith, most)), chained.1, omega (arith, stays), inl (chained.0, tt)))
 
-takes : (n : Sizes) (c : ℕ) (m : Word → ℕ) (h : Hands) (claim : Claim) (q t next : ℕ) → n.slots ≤ 4096 → claim.kind < length n.kinds → PoolHolds n m h → ClaimStands n m h c claim.kind claim.sweep (claims.Take q t next)
-    → PoolKept n c m h (after_access m (claim_wants_at claim.kind claim.sweep (claims.Take q t next))) (claim_hands c claim.kind claim.sweep (claims.Take q t next) m h)
-    (ClaimNext n (after_access m (claim_wants_at claim.kind claim.sweep (claims.Take q t next))) (claim_hands c claim.kind claim.sweep (claims.Take q t next) m h) c
-    (look_took claim q t (m (Head claim.kind))).claim (look_took claim q t (m (Head claim.kind))).ended)
-takes n c m h claim q t next most lt f w = of (m (Head claim.kind) == head_word q t) refl where
+takes : (n : Sizes) (c : ℕ) (m : Word → ℕ) (h : Hands) (claim : Claim) (q t next : ℕ) → n.slots < n.tops → claim.kind < length n.kinds → PoolHolds n m h → ClaimStands n m h c claim.kind claim.sweep (claims.Take q t next)
+    → PoolKept n c m h (after_access m (claim_wants_at n.tops claim.kind claim.sweep (claims.Take q t next))) (claim_hands n.tops c claim.kind claim.sweep (claims.Take q t next) m h)
+    (ClaimNext n (after_access m (claim_wants_at n.tops claim.kind claim.sweep (claims.Take q t next))) (claim_hands n.tops c claim.kind claim.sweep (claims.Take q t next) m h) c
+    (look_took n claim q t (m (Head claim.kind))).claim (look_took n claim q t (m (Head claim.kind))).ended)
+takes n c m h claim q t next most lt f w = of (m (Head claim.kind) == head_word n.tops q t) refl where
   -- if the head is as it was loaded, the top has stood there since
-  stood : m (Head claim.kind) ≡ head_word q t → ((h.owner t ≡ Chained) × (m (Link t) ≡ next)) ⊎ Gone n m h q t → (h.owner t ≡ Chained) × (m (Link t) ≡ next)
+  stood : m (Head claim.kind) ≡ head_word n.tops q t → ((h.owner t ≡ Chained) × (m (Link t) ≡ next)) ⊎ Gone n m h q t → (h.owner t ≡ Chained) × (m (Link t) ≡ next)
   stood is (inl stands) = stands
-  stood is (inr (inl less)) = absurd (let here = ap (stamp m) w.2 ∙ (tells m claim.kind q t is w.1).0 in let no : ⊥ = omega (arith, here, less) in no)
-  stood is (inr (inr above)) = absurd (subst (λ (o : Owner). ComesAbove q o) (top_chained n m h claim.kind t lt f (tells m claim.kind q t is w.1).1 w.0).0 above)
+  stood is (inr (inl less)) = absurd (let here = ap (stamp n.tops m) w.2 ∙ (tells n.tops m claim.kind q t is w.1).0 in let no : ⊥ = omega (arith, here, less) in no)
+  stood is (inr (inr above)) = absurd (subst (λ (o : Owner). ComesAbove q o) (top_chained n m h claim.kind t lt f (tells n.tops m claim.kind q t is w.1).1 w.0).0 above)
 
-  of : (b : Bool) → (m (Head claim.kind) == head_word q t) ≡ b
-      → PoolKept n c m h (store m (Head claim.kind) (if b then head_word q next else m (Head claim.kind))) (if b then without_top h claim.kind c t else h)
-      (ClaimNext n (store m (Head claim.kind) (if b then head_word q next else m (Head claim.kind))) (if b then without_top h claim.kind c t else h) c
+  of : (b : Bool) → (m (Head claim.kind) == head_word n.tops q t) ≡ b
+      → PoolKept n c m h (store m (Head claim.kind) (if b then head_word n.tops q next else m (Head claim.kind))) (if b then without_top h claim.kind c t else h)
+      (ClaimNext n (store m (Head claim.kind) (if b then head_word n.tops q next else m (Head claim.kind))) (if b then without_top h claim.kind c t else h) c
       (if b then claim_goes claim (claims.StoreUsed q t) else claim_goes claim claims.ReadHead).claim (if b then claim_goes claim (claims.StoreUsed q t) else claim_goes claim claims.ReadHead).ended)
   of false is = kept_same n c m (store m (Head claim.kind) (m (Head claim.kind))) h _ (same_loaded m (Head claim.kind)) f (lt, tt)
   of true is =
-      let head : m (Head claim.kind) ≡ head_word q t = grind (arith, nat_tests) in
+      let head : m (Head claim.kind) ≡ head_word n.tops q t = grind (arith, nat_tests) in
       let stands = stood head w.4 in
       let e : Expected n m h claim.kind q t next = record { slots = most; kind = lt; head = head; small = w.1; some = w.0; own = stands.0; of_kind = w.2; link = stands.1 } in
       record { fine = fine_taken n m h c claim.kind q t next e f; goes = goes_taken n m h c claim.kind q t next e f; next = (lt, (put_same h.owner t (Taken c), w.2)) }
@@ -239,11 +240,11 @@ used n c m h q t f own =
     )
 
 -- the next stage of a claim
-pub claim_step : (n : Sizes) (last c : ℕ) (m : Word → ℕ) (h : Hands) (claim : Claim) (stage : ClaimStage) → claim.stage ≡ stage → n.slots ≤ 4096 → claim.kind < length n.kinds → PoolHolds n m h → ClaimStands n m h c claim.kind claim.sweep stage
-    → PoolKept n c m h (after_access m (claim_wants_at claim.kind claim.sweep stage)) (claim_hands c claim.kind claim.sweep stage m h)
-    (ClaimNext n (after_access m (claim_wants_at claim.kind claim.sweep stage)) (claim_hands c claim.kind claim.sweep stage m h) c
-    (claim_accepts_at n last claim (m (word_of (claim_wants_at claim.kind claim.sweep stage))) stage).claim (claim_accepts_at n last claim (m (word_of (claim_wants_at claim.kind claim.sweep stage))) stage).ended)
-claim_step n last c m h claim claims.ReadHead is most lt f w = kept_same n c m (store m (Head claim.kind) (m (Head claim.kind))) h _ (same_loaded m (Head claim.kind)) f (look_next n m h c claim lt f)
+pub claim_step : (n : Sizes) (last c : ℕ) (m : Word → ℕ) (h : Hands) (claim : Claim) (stage : ClaimStage) → claim.stage ≡ stage → n.slots < n.tops → claim.kind < length n.kinds → PoolHolds n m h → ClaimStands n m h c claim.kind claim.sweep stage
+    → PoolKept n c m h (after_access m (claim_wants_at n.tops claim.kind claim.sweep stage)) (claim_hands n.tops c claim.kind claim.sweep stage m h)
+    (ClaimNext n (after_access m (claim_wants_at n.tops claim.kind claim.sweep stage)) (claim_hands n.tops c claim.kind claim.sweep stage m h) c
+    (claim_accepts_at n last claim (m (word_of (claim_wants_at n.tops claim.kind claim.sweep stage))) stage).claim (claim_accepts_at n last claim (m (word_of (claim_wants_at n.tops claim.kind claim.sweep stage))) stage).ended)
+claim_step n last c m h claim claims.ReadHead is most lt f w = kept_same n c m (store m (Head claim.kind) (m (Head claim.kind))) h _ (same_loaded m (Head claim.kind)) f (look_next n m h c claim most lt f)
 claim_step n last c m h claim (claims.ReadLink q t) is most lt f w =
     let same = same_loaded m (Link t) in
     kept_same n c m (store m (Link t) (m (Link t))) h _ same f
@@ -253,15 +254,29 @@ claim_step n last c m h claim (claims.StoreUsed q t) is most lt f w = let k = us
 claim_step n last c m h claim (claims.Withdraw own) is most lt f w = kept_same n c m (store m (Warning own) 0) h _ (same_written m (Warning own) 0 refl) f (lt, tt)
 claim_step n last c m h claim claims.Sweeps is most lt f w =
     let kept = sweep_step n last c m h claim.sweep claim.sweep.stage most f w in
-    let a = sweep_wants_at claim.sweep.scheme claim.sweep.stage claim.sweep.bound in
+    let a = sweep_wants_at n.tops claim.sweep.scheme claim.sweep.stage claim.sweep.bound in
     let turn = sweep_accepts_at n last claim.sweep (m (word_of a)) claim.sweep.stage in
-    record { fine = kept.fine; goes = kept.goes; next = sweep_goes_on n (after_access m a) (sweep_hands c claim.sweep.bound claim.sweep.stage m h) c claim turn.sweep turn.ended is lt kept.next }
+    record { fine = kept.fine; goes = kept.goes; next = sweep_goes_on n (after_access m a) (sweep_hands n.tops c claim.sweep.bound claim.sweep.stage m h) c claim turn.sweep turn.ended is lt kept.next }
   where
     sweep_goes_on : (n : Sizes) (m : Word → ℕ) (h : Hands) (c : ℕ) (claim : Claim) (sweep : Sweep) (end : Option SweepEnd) → claim.stage ≡ claims.Sweeps → claim.kind < length n.kinds → SweepNext n m h c sweep end
         → ClaimNext n m h c (sweep_ended claim sweep end).claim (sweep_ended claim sweep end).ended
     sweep_goes_on n m h c claim sweep None is lt next = (lt, subst (λ (stage : ClaimStage). ClaimStands n m h c claim.kind sweep stage) (sym is) next)
     sweep_goes_on n m h c claim sweep (Some swept.Swept) is lt next = (lt, tt)
     sweep_goes_on n m h c claim sweep (Some (swept.PhasesOver p)) is lt next = tt
+
+-- and with the access that it wants, if its heads are those of the row
+pub claim_moves : (n : Sizes) (last c : ℕ) (m : Word → ℕ) (h : Hands) (claim : Claim) → claim.sweep.tops ≡ n.tops → n.slots < n.tops → claim.kind < length n.kinds → PoolHolds n m h
+    → ClaimStands n m h c claim.kind claim.sweep claim.stage
+    → PoolKept n c m h (after_access m (claim_wants claim)) (claim_hands n.tops c claim.kind claim.sweep claim.stage m h)
+    (ClaimNext n (after_access m (claim_wants claim)) (claim_hands n.tops c claim.kind claim.sweep claim.stage m h) c
+    (claim_accepts n last claim (m (word_of (claim_wants claim)))).claim (claim_accepts n last claim (m (word_of (claim_wants claim)))).ended)
+claim_moves n last c m h claim same most lt f w = subst (λ (tops : ℕ). At tops) (sym same) (claim_step n last c m h claim claim.stage refl most lt f w) where
+  At : ℕ → Type 0
+  At tops =
+      let a = claim_wants_at tops claim.kind claim.sweep claim.stage in
+      let turn = claim_accepts n last claim (m (word_of a)) in
+      PoolKept n c m h (after_access m a) (claim_hands n.tops c claim.kind claim.sweep claim.stage m h)
+      (ClaimNext n (after_access m a) (claim_hands n.tops c claim.kind claim.sweep claim.stage m h) c turn.claim turn.ended)
 
 -- ---- a retirement
 
@@ -273,7 +288,7 @@ retire_step n c m h j retires.ReadPhase are f own =
     let same = same_loaded m Phase in
     let near : Near m m' j = record { phase = same.phase; head = same.head; link = same.link; status = λ i ne. same.status i } in
     let mine : IsMine c (h.owner j) = subst (λ (o : Owner). IsMine c o) (sym own) refl in
-    let slot : SlotHolds (slot_range n) (stamp m (kind_of n j)) (m Phase) j (m (Status j)) (Retiring c None) = subst (λ (o : Owner). SlotHolds (slot_range n) (stamp m (kind_of n j)) (m Phase) j (m (Status j)) o) own (f.slot j) in
+    let slot : SlotHolds (slot_range n) (stamp n.tops m (kind_of n j)) (m Phase) j (m (Status j)) (Retiring c None) = subst (λ (o : Owner). SlotHolds (slot_range n) (stamp n.tops m (kind_of n j)) (m Phase) j (m (Status j)) o) own (f.slot j) in
     record {
       fine = fine_handed n m m' h c j (Retiring c (Some (m Phase))) near mine refl (slot.0, slot.1, omega arith) f;
       goes = goes_handed n c m m' h j (Retiring c (Some (m Phase))) near mine refl (λ p below is. let up = f.stamped (kind_of n j) (kind_small n j are) in omega (arith, below, up));
@@ -283,7 +298,7 @@ retire_step n c m h j (retires.StoreStatus p) are f own =
     let m' : Word → ℕ = store m (Status j) (status_word p kinds.Retired) in
     let near : Near m m' j = record { phase = omega arith; head = λ k. refl; link = λ i. refl; status = λ i ne. status_other m j (status_word p kinds.Retired) i ne } in
     let mine : IsMine c (h.owner j) = subst (λ (o : Owner). IsMine c o) (sym own) refl in
-    let slot : SlotHolds (slot_range n) (stamp m (kind_of n j)) (m Phase) j (m (Status j)) (Retiring c (Some p)) = subst (λ (o : Owner). SlotHolds (slot_range n) (stamp m (kind_of n j)) (m Phase) j (m (Status j)) o) own (f.slot j) in
+    let slot : SlotHolds (slot_range n) (stamp n.tops m (kind_of n j)) (m Phase) j (m (Status j)) (Retiring c (Some p)) = subst (λ (o : Owner). SlotHolds (slot_range n) (stamp n.tops m (kind_of n j)) (m Phase) j (m (Status j)) o) own (f.slot j) in
     record {
       fine = fine_handed n m m' h c j (Retired p) near mine refl (slot.0, status_here m j (status_word p kinds.Retired), slot.2) f;
       goes = goes_handed n c m m' h j (Retired p) near mine tt (λ q below is. subst (λ (o : Owner). ComesAbove q o) own is);
@@ -296,7 +311,7 @@ pub retire_begins : (n : Sizes) (c : ℕ) (m : Word → ℕ) (h : Hands) (j : �
 retire_begins n c m h j f some most own =
     let near : Near m m j = record { phase = omega arith; head = λ k. refl; link = λ i. refl; status = λ i ne. refl } in
     let mine : IsMine c (h.owner j) = subst (λ (o : Owner). IsMine c o) (sym own) tt in
-    let slot : SlotHolds (slot_range n) (stamp m (kind_of n j)) (m Phase) j (m (Status j)) Outside = subst (λ (o : Owner). SlotHolds (slot_range n) (stamp m (kind_of n j)) (m Phase) j (m (Status j)) o) own (f.slot j) in
+    let slot : SlotHolds (slot_range n) (stamp n.tops m (kind_of n j)) (m Phase) j (m (Status j)) Outside = subst (λ (o : Owner). SlotHolds (slot_range n) (stamp n.tops m (kind_of n j)) (m Phase) j (m (Status j)) o) own (f.slot j) in
     record {
       fine = fine_handed n m m h c j (Retiring c None) near mine refl ((some, most), slot most, tt) f;
       goes = goes_handed n c m m h j (Retiring c None) near mine refl (λ q below is. tt);

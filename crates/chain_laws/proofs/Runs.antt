@@ -9,6 +9,7 @@ use Rattle.oa_words.specs.Within.{AreKinds}
 use Rattle.phase_pools.specs.declared.access.ClaimEnd.{ClaimEnd}
 use Rattle.phase_pools.specs.Accesses.{word_of}
 use Rattle.phase_pools.specs.Pools.{Claim, claim_begun, claim_wants, claim_accepts, Retirement, retire_begun, retire_wants, retire_accepts}
+use Rattle.phase_pools.proofs.Keeping.{claim_stays}
 use Rattle.oa_words.specs.Memories.{store}
 use Rattle.chain_laws.specs.Memories.{put, after_access}
 use Rattle.chain_laws.specs.Chains.{Owner, Chained, Taken, Outside, Retiring, Hands, handed, stamp}
@@ -20,7 +21,7 @@ use Rattle.chain_laws.proofs.Changes.{Same, fine_same, goes_same}
 use Rattle.chain_laws.proofs.Same.{same_written}
 use Rattle.chain_laws.proofs.Moving.{stable_gone, stable_claim, stable_retire}
 use Rattle.chain_laws.proofs.Holding.{claim_has, retire_has, begins_retiring}
-use Rattle.chain_laws.proofs.Routines.{claim_step, retire_step, retire_begins}
+use Rattle.chain_laws.proofs.Routines.{claim_moves, retire_step, retire_begins}
 
 -- an event that has kept what holds: whose it was, and what it may have done
 pub record EventKept (n : Sizes) (state later : PoolState) : Type 0 where
@@ -30,7 +31,7 @@ pub record EventKept (n : Sizes) (state later : PoolState) : Type 0 where
 
 stable_standing : (n : Sizes) (c d : ℕ) (m : Word → ℕ) (h : Hands) (m' : Word → ℕ) (h' : Hands) (standing : Standing) → MayMove n c m h m' h' → d ≢ c → StandsAt n m h d standing → StandsAt n m' h' d standing
 stable_standing n c d m h m' h' Elsewhere g ne w = tt
-stable_standing n c d m h m' h' (Claims claim) g ne w = (w.0, stable_claim n c d m h m' h' claim.kind claim.sweep claim.stage g ne w.1)
+stable_standing n c d m h m' h' (Claims claim) g ne w = (w.0, stable_claim n c d m h m' h' claim.kind claim.sweep claim.stage g ne w.1, w.2)
 stable_standing n c d m h m' h' (Retires retirement) g ne w = stable_retire n c d m h m' h' retirement.slot retirement.stage g ne w
 
 -- a step of one caller
@@ -54,9 +55,10 @@ retirement_left_has : (h : Hands) (c : ℕ) (left : Option Retirement) → HasOn
 retirement_left_has h c None has = has
 retirement_left_has h c (Some retirement) has = has
 
-claim_goes_on : (n : Sizes) (m : Word → ℕ) (h : Hands) (c : ℕ) (claim : Claim) (end : Option ClaimEnd) → ClaimNext n m h c claim end → StandsAt n m h c (claim_left claim end)
-claim_goes_on n m h c claim None next = next
-claim_goes_on n m h c claim (Some end) next = tt
+claim_goes_on : (n : Sizes) (m : Word → ℕ) (h : Hands) (c : ℕ) (claim : Claim) (end : Option ClaimEnd) → claim.sweep.tops ≡ n.tops → ClaimNext n m h c claim end
+    → StandsAt n m h c (claim_left claim end)
+claim_goes_on n m h c claim None tops next = (next.0, next.1, tops)
+claim_goes_on n m h c claim (Some end) tops next = tt
 
 retire_goes_on : (n : Sizes) (m : Word → ℕ) (h : Hands) (c : ℕ) (left : Option Retirement) → RetireNext h c left → StandsAt n m h c (retirement_left left)
 retire_goes_on n m h c None next = tt
@@ -83,17 +85,19 @@ same_again : (m : Word → ℕ) → Same m m
 same_again m = record { phase = omega arith; head = λ k. refl; link = λ i. refl; status = λ i. refl }
 
 -- a caller's step in its routine
-step_kept : (n : Sizes) (last : ℕ) (state later : PoolState) (c : ℕ) (standing : Standing) → state.who c ≡ standing → AreKinds n → n.slots ≤ 4096 → Holds n state → stepped n last state c standing ≡ Some later → EventKept n state later
+step_kept : (n : Sizes) (last : ℕ) (state later : PoolState) (c : ℕ) (standing : Standing) → state.who c ≡ standing → AreKinds n → n.slots < n.tops → Holds n state → stepped n last state c standing ≡ Some later → EventKept n state later
 step_kept n last state later c Elsewhere at are most w is = absurd (let z : None ≡ Some later = is in cc)
 step_kept n last state later c (Claims claim) at are most w is =
     let told : StandsAt n state.memory state.hands c (Claims claim) = subst (λ (x : Standing). StandsAt n state.memory state.hands c x) at (w.told c) in
     let has : HasOnly state.hands c (slot_of (Claims claim)) = subst (λ (x : Standing). HasOnly state.hands c (slot_of x)) at (w.has c) in
-    let turn = claim_accepts n last claim (state.memory (word_of (claim_wants claim))) in
+    let word = state.memory (word_of (claim_wants claim)) in
+    let turn = claim_accepts n last claim word in
     let m' : Word → ℕ = after_access state.memory (claim_wants claim) in
-    let h' : Hands = claim_hands c claim.kind claim.sweep claim.stage state.memory state.hands in
+    let h' : Hands = claim_hands n.tops c claim.kind claim.sweep claim.stage state.memory state.hands in
     subst (λ (x : PoolState). EventKept n state x) (some_state (record { memory = m'; hands = h'; who = put state.who c (claim_left turn.claim turn.ended) }) later is)
-    (steps_on n c state m' h' (claim_left turn.claim turn.ended) _ w (claim_step n last c state.memory state.hands claim claim.stage refl most told.0 w.fine told.1) (λ next. claim_goes_on n m' h' c turn.claim turn.ended next)
-    (claim_left_has h' c turn.claim turn.ended (claim_has n last c state.memory state.hands claim claim.stage refl w.fine has)))
+    (steps_on n c state m' h' (claim_left turn.claim turn.ended) _ w (claim_moves n last c state.memory state.hands claim told.2 most told.0 w.fine told.1)
+    (λ next. claim_goes_on n m' h' c turn.claim turn.ended ((claim_stays n last claim word).tops ∙ told.2) next)
+    (claim_left_has h' c turn.claim turn.ended (claim_has n last claim.sweep.tops c state.memory state.hands claim claim.stage refl w.fine has)))
 step_kept n last state later c (Retires retirement) at are most w is =
     let told : StandsAt n state.memory state.hands c (Retires retirement) = subst (λ (x : Standing). StandsAt n state.memory state.hands c x) at (w.told c) in
     let has : HasOnly state.hands c (slot_of (Retires retirement)) = subst (λ (x : Standing). HasOnly state.hands c (slot_of x)) at (w.has c) in
@@ -104,14 +108,14 @@ step_kept n last state later c (Retires retirement) at are most w is =
     (steps_on n c state m' h' (retirement_left left) _ w (retire_step n c state.memory state.hands retirement.slot retirement.stage are w.fine told) (λ next. retire_goes_on n m' h' c left next)
     (retirement_left_has h' c left (retire_has n c state.memory state.hands retirement.slot retirement.stage has)))
 
-pub event_kept : (n : Sizes) (last : ℕ) (state later : PoolState) (event : PoolEvent) → AreKinds n → n.slots ≤ 4096 → Holds n state → pool_event n last state event ≡ Some later → EventKept n state later
+pub event_kept : (n : Sizes) (last : ℕ) (state later : PoolState) (event : PoolEvent) → AreKinds n → n.slots < n.tops → Holds n state → pool_event n last state event ≡ Some later → EventKept n state later
 event_kept n last state later (BeginsClaim c k scheme) are most w is =
     let claim : Claim = claim_begun n k scheme in
     let test = tested (nat_lt k (length n.kinds)) (begins (state.who c) (record state { who = put state.who c (Claims claim) })) later is in
     let begin = begun (state.who c) (record state { who = put state.who c (Claims claim) }) later test.1 in
     let lt : k < length n.kinds = (let less = test.0 in grind (arith, nat_tests)) in
     subst (λ (x : PoolState). EventKept n state x) begin.1
-    (steps_on n c state state.memory state.hands (Claims claim) (Unit {0}) w (record { fine = w.fine; goes = goes_same n c state.memory state.memory state.hands (same_again state.memory); next = tt }) (λ next. (lt, tt))
+    (steps_on n c state state.memory state.hands (Claims claim) (Unit {0}) w (record { fine = w.fine; goes = goes_same n c state.memory state.memory state.hands (same_again state.memory); next = tt }) (λ next. (lt, tt, refl))
     (subst (λ (x : Standing). HasOnly state.hands c (slot_of x)) begin.0 (w.has c)))
 event_kept n last state later (BeginsRetirement c j) are most w is =
     let begin : PoolState = record state { hands = handed state.hands j (Retiring c None); who = put state.who c (Retires (retire_begun j)) } in
@@ -144,15 +148,15 @@ run_split : (o : Option PoolState) (next : PoolState → Option PoolState) (late
 run_split None next later is = absurd (let z : None ≡ Some later = is in cc)
 run_split (Some state) next later is = (state, refl, is)
 
-pub run_holds : (n : Sizes) (last : ℕ) (events : List PoolEvent) (state later : PoolState) → AreKinds n → n.slots ≤ 4096 → Holds n state → pool_run n last events state ≡ Some later → Holds n later
+pub run_holds : (n : Sizes) (last : ℕ) (events : List PoolEvent) (state later : PoolState) → AreKinds n → n.slots < n.tops → Holds n state → pool_run n last events state ≡ Some later → Holds n later
 run_holds n last [] state later are most w is = subst (λ (x : PoolState). Holds n x) (some_state state later is) w
 run_holds n last (event ∷ events) state later are most w is =
     let split = run_split (pool_event n last state event) (pool_run n last events) later is in
     run_holds n last events split.0 later are most (event_kept n last state split.0 event are most w split.1).holds split.2
 
-pub run_stamp : (n : Sizes) (last : ℕ) (events : List PoolEvent) (state later : PoolState) → AreKinds n → n.slots ≤ 4096 → Holds n state → pool_run n last events state ≡ Some later
-    → (k : ℕ) → stamp state.memory k ≤ stamp later.memory k
-run_stamp n last [] state later are most w is k = subst (λ (x : PoolState). stamp state.memory k ≤ stamp x.memory k) (some_state state later is) (omega arith)
+pub run_stamp : (n : Sizes) (last : ℕ) (events : List PoolEvent) (state later : PoolState) → AreKinds n → n.slots < n.tops → Holds n state → pool_run n last events state ≡ Some later
+    → (k : ℕ) → stamp n.tops state.memory k ≤ stamp n.tops later.memory k
+run_stamp n last [] state later are most w is k = subst (λ (x : PoolState). stamp n.tops state.memory k ≤ stamp n.tops x.memory k) (some_state state later is) (omega arith)
 run_stamp n last (event ∷ events) state later are most w is k =
     let split = run_split (pool_event n last state event) (pool_run n last events) later is in
     let kept = event_kept n last state split.0 event are most w split.1 in
@@ -163,8 +167,8 @@ run_stamp n last (event ∷ events) state later are most w is k =
 abbrev pub StillOrGone : Sizes → PoolState → PoolState → ℕ → ℕ → Type 0
 StillOrGone n state later q t = ((later.hands.owner t ≡ Chained) × (later.memory (Link t) ≡ state.memory (Link t))) ⊎ Gone n later.memory later.hands q t
 
-pub run_gone : (n : Sizes) (last : ℕ) (events : List PoolEvent) (state later : PoolState) (q t : ℕ) → AreKinds n → n.slots ≤ 4096 → Holds n state → pool_run n last events state ≡ Some later
-    → q ≤ stamp state.memory (kind_of n t) → Gone n state.memory state.hands q t → Gone n later.memory later.hands q t
+pub run_gone : (n : Sizes) (last : ℕ) (events : List PoolEvent) (state later : PoolState) (q t : ℕ) → AreKinds n → n.slots < n.tops → Holds n state → pool_run n last events state ≡ Some later
+    → q ≤ stamp n.tops state.memory (kind_of n t) → Gone n state.memory state.hands q t → Gone n later.memory later.hands q t
 run_gone n last [] state later q t are most w is le gone = subst (λ (x : PoolState). Gone n x.memory x.hands q t) (some_state state later is) gone
 run_gone n last (event ∷ events) state later q t are most w is le gone =
     let split = run_split (pool_event n last state event) (pool_run n last events) later is in
@@ -172,13 +176,13 @@ run_gone n last (event ∷ events) state later q t are most w is le gone =
     run_gone n last events split.0 later q t are most kept.holds split.2 (let now = kept.goes.stamped (kind_of n t) in omega (arith, le, now))
     (stable_gone n kept.mover state.memory state.hands split.0.memory split.0.hands q t kept.goes le gone)
 
-pub run_stands : (n : Sizes) (last : ℕ) (events : List PoolEvent) (state later : PoolState) (q t : ℕ) → AreKinds n → n.slots ≤ 4096 → Holds n state → pool_run n last events state ≡ Some later
-    → q ≤ stamp state.memory (kind_of n t) → state.hands.owner t ≡ Chained → StillOrGone n state later q t
+pub run_stands : (n : Sizes) (last : ℕ) (events : List PoolEvent) (state later : PoolState) (q t : ℕ) → AreKinds n → n.slots < n.tops → Holds n state → pool_run n last events state ≡ Some later
+    → q ≤ stamp n.tops state.memory (kind_of n t) → state.hands.owner t ≡ Chained → StillOrGone n state later q t
 run_stands n last [] state later q t are most w is le own = subst (λ (x : PoolState). StillOrGone n state x q t) (some_state state later is) (inl (own, refl))
 run_stands n last (event ∷ events) state later q t are most w is le own =
     let split = run_split (pool_event n last state event) (pool_run n last events) later is in
     let kept = event_kept n last state split.0 event are most w split.1 in
-    let up : q ≤ stamp split.0.memory (kind_of n t) = (let now = kept.goes.stamped (kind_of n t) in omega (arith, le, now)) in
+    let up : q ≤ stamp n.tops split.0.memory (kind_of n t) = (let now = kept.goes.stamped (kind_of n t) in omega (arith, le, now)) in
     ⊎_elim
     (λ (here : (split.0.hands.owner t ≡ Chained) × (split.0.memory (Link t) ≡ state.memory (Link t))). ⊎_elim
     (λ (there : (later.hands.owner t ≡ Chained) × (later.memory (Link t) ≡ split.0.memory (Link t))). inl (there.0, there.1 ∙ here.1))

@@ -58,8 +58,8 @@ chain_from range nodes j (suc count) some le is = (
   subst (λ (k : ℕ). IsChain (start_link range nodes) k (slots_from (j + 1) count)) (sym (link_after range nodes j le)) (chain_from range nodes (j + 1) count some (omega (arith, le)) (omega (arith, is))),
 )
 
-pub slot_small : (range : SlotRange) (j : ℕ) → range.last ≤ 4096 → slot_or_none range j < 8192
-slot_small range j most = let le = slot_within range j in omega (arith, le, most)
+pub slot_small : (tops : ℕ) (range : SlotRange) (j : ℕ) → range.last < tops → slot_or_none range j < tops
+slot_small tops range j most = let le = slot_within range j in omega (arith, le, most)
 
 -- ---- owners
 
@@ -185,16 +185,16 @@ nobody range nodes j c = of (nat_le (first_ready range nodes) j && nat_le j rang
   of true is = let z : None ≡ Some c = is in cc
   of false is = let z : None ≡ Some c = is in cc
 
-start_fine : (n : Sizes) (start : Beginning) → AreKinds n → n.slots ≤ 4096 → NodesFit n start → PoolHolds n (start_word n start) (pool_start n start (start_word n start)).hands
+start_fine : (n : Sizes) (start : Beginning) → AreKinds n → n.slots < n.tops → NodesFit n start → PoolHolds n (start_word n start) (pool_start n start (start_word n start)).hands
 start_fine n start are most fit = record {
   stamped = λ k lt. (let is = (parts k).0 in omega (arith, is));
   linked = λ k lt. subst (λ (x : ℕ). IsChain (links (start_word n start)) x (start_chain (range_of n k) (nodes_of start k))) (sym (parts k).1) (linked_at_start n start k are fit lt);
   stands = λ k j. stands_at_start n start k j are fit;
-  slot = λ j. start_slot n start j (stamp (start_word n start) (kind_of n j)) are (let is = (parts (kind_of n j)).0 in omega (arith, is));
+  slot = λ j. start_slot n start j (stamp n.tops (start_word n start) (kind_of n j)) are (let is = (parts (kind_of n j)).0 in omega (arith, is));
 } where
-  parts : (k : ℕ) → (stamp (start_word n start) k ≡ start.first) × (top (start_word n start) k ≡ start_top (range_of n k) (nodes_of start k))
-  parts k = tells (start_word n start) k start.first (start_top (range_of n k) (nodes_of start k)) refl
-      (slot_small (range_of n k) (first_ready (range_of n k) (nodes_of start k)) (let last = last_within n k are in omega (arith, last, most)))
+  parts : (k : ℕ) → (stamp n.tops (start_word n start) k ≡ start.first) × (top n.tops (start_word n start) k ≡ start_top (range_of n k) (nodes_of start k))
+  parts k = tells n.tops (start_word n start) k start.first (start_top (range_of n k) (nodes_of start k)) refl
+      (slot_small n.tops (range_of n k) (first_ready (range_of n k) (nodes_of start k)) (let last = last_within n k are in omega (arith, last, most)))
 
 -- the row has the words of its slots
 pub row_has : (slots j : ℕ) → j ≤ slots → nat_lt j (slots + 1) ≡ true
@@ -204,7 +204,7 @@ row_has slots j le = grind (arith, nat_tests)
 pub row_heads : (kinds k : ℕ) → k < kinds → nat_lt k kinds ≡ true
 row_heads kinds k lt = grind (arith, nat_tests)
 
-pub start_holds : (n : Sizes) (start : Beginning) (memory : Word → ℕ) → AreKinds n → n.slots ≤ 4096 → NodesFit n start → StartsAs n start memory → Holds n (pool_start n start memory)
+pub start_holds : (n : Sizes) (start : Beginning) (memory : Word → ℕ) → AreKinds n → n.slots < n.tops → NodesFit n start → StartsAs n start memory → Holds n (pool_start n start memory)
 start_holds n start memory are most fit starts = record {
   fine = fine_row n (start_word n start) memory (pool_start n start memory).hands are (starts Phase refl) (λ k lt. starts (Head k) (row_heads (length n.kinds) k lt))
       (λ j within. starts (Link j) (row_has n.slots j within)) (λ j within. starts (Status j) (row_has n.slots j within)) (start_fine n start are most fit);

@@ -77,8 +77,8 @@ retiring n m h c j tag (Retires retirement) w some is own = (retirement, refl, i
 -- ---- statuses
 
 -- the slot by the owner that it is found to have
-slot_by : (n : Sizes) (state : PoolState) (j : ℕ) (o : Owner) → Holds n state → state.hands.owner j ≡ o → SlotHolds (slot_range n) (stamp state.memory (kind_of n j)) (state.memory Phase) j (state.memory (Status j)) o
-slot_by n state j o w own = subst (λ (x : Owner). SlotHolds (slot_range n) (stamp state.memory (kind_of n j)) (state.memory Phase) j (state.memory (Status j)) x) own (w.fine.slot j)
+slot_by : (n : Sizes) (state : PoolState) (j : ℕ) (o : Owner) → Holds n state → state.hands.owner j ≡ o → SlotHolds (slot_range n) (stamp n.tops state.memory (kind_of n j)) (state.memory Phase) j (state.memory (Status j)) o
+slot_by n state j o w own = subst (λ (x : Owner). SlotHolds (slot_range n) (stamp n.tops state.memory (kind_of n j)) (state.memory Phase) j (state.memory (Status j)) x) own (w.fine.slot j)
 
 empty_chain : (link : ℕ → ℕ) (chain : List ℕ) → IsChain link 0 chain → chain ≡ []
 empty_chain link [] is = refl
@@ -147,15 +147,15 @@ pool_tells n state w = record {
   in_none k j none = w.fine.stands k j ∙ once_none n k j (state.hands.owner j) none
 
   chained : (k j : ℕ) → (state.hands.owner j ≡ Chained) × (kind_of n j ≡ k)
-      → IsSlot (slot_range n) j × (kind_of n j ≡ k) × ((q : ℕ) × (state.memory (Status j) ≡ status_word q kinds.Ready) × (q ≤ stamp state.memory k))
+      → IsSlot (slot_range n) j × (kind_of n j ≡ k) × ((q : ℕ) × (state.memory (Status j) ≡ status_word q kinds.Ready) × (q ≤ stamp n.tops state.memory k))
   chained k j is =
       let slot = slot_by n state j Chained w is.0 in
-      (slot.0, is.1, (slot.1.0, slot.1.1, subst (λ (x : ℕ). slot.1.0 ≤ stamp state.memory x) is.1 slot.1.2))
+      (slot.0, is.1, (slot.1.0, slot.1.1, subst (λ (x : ℕ). slot.1.0 ≤ stamp n.tops state.memory x) is.1 slot.1.2))
 
   taken : (claim : Claim) (q t c : ℕ) → (state.hands.owner t ≡ Taken c) × (kind_of n t ≡ claim.kind) → IsSlot (slot_range n) t × (kind_of n t ≡ claim.kind) × IsOf kinds.Ready (state.memory (Status t))
   taken claim q t c is = let slot = slot_by n state t (Taken c) w is.0 in (slot.0, is.1, slot.1)
 
-  found : (c : ℕ) (claim : Claim) (q t next : ℕ) → state.memory (Head claim.kind) ≡ head_word q t → (claim.kind < length n.kinds) × ClaimStands n state.memory state.hands c claim.kind claim.sweep (claims.Take q t next)
+  found : (c : ℕ) (claim : Claim) (q t next : ℕ) → state.memory (Head claim.kind) ≡ head_word n.tops q t → (claim.kind < length n.kinds) × ClaimStands n state.memory state.hands c claim.kind claim.sweep (claims.Take q t next)
       → (times t (state.hands.chain claim.kind) ≡ 1) × (state.memory (Link t) ≡ next)
   found c claim q t next head k = ⊎_elim
       (λ (here : (state.hands.owner t ≡ Chained) × (state.memory (Link t) ≡ next)). (w.fine.stands claim.kind t ∙ (once_here n claim.kind t (state.hands.owner t) k.1.2 ∙ ap once here.0), here.1))
@@ -167,7 +167,7 @@ pool_tells n state w = record {
   freed c claim j q stage k =
       let at : SweepStands n state.memory state.hands c claim.sweep.bound claim.sweep.low (sweeps.MakeReady j q) =
       subst (λ (x : SweepStage). SweepStands n state.memory state.hands c claim.sweep.bound claim.sweep.low x) stage k in
-      (at.3, at.1, λ is. is_retired (slot_range n) (stamp state.memory (kind_of n j)) (state.memory Phase) j (state.memory (Status j)) q (state.hands.owner j) at.2 is (w.fine.slot j))
+      (at.3, at.1, λ is. is_retired (slot_range n) (stamp n.tops state.memory (kind_of n j)) (state.memory Phase) j (state.memory (Status j)) q (state.hands.owner j) at.2 is (w.fine.slot j))
 
   pushed : (c : ℕ) (claim : Claim) (k j q t : ℕ) → claim.sweep.stage ≡ sweeps.PushTop k j q t → SweepStands n state.memory state.hands c claim.sweep.bound claim.sweep.low claim.sweep.stage
       → (k ≡ kind_of n j) × (state.memory (Link j) ≡ t) × ((i : ℕ) → times j (state.hands.chain i) ≡ 0)

@@ -16,13 +16,13 @@ pub chains_stand : OfAll ChainsStand
 chains_stand n last start are most fit memory starts events state is = run_holds n last events (pool_start n start memory) state are most (start_holds n start memory are most fit starts) is
 
 -- if a kind's head is (q, t), slot t isn't gone
-pub not_gone : (n : Sizes) (state : PoolState) (k q t : ℕ) → Holds n state → k < length n.kinds → state.memory (Head k) ≡ head_word q t → t < 8192 → t ≢ 0 → Gone n state.memory state.hands q t → ⊥
+pub not_gone : (n : Sizes) (state : PoolState) (k q t : ℕ) → Holds n state → k < length n.kinds → state.memory (Head k) ≡ head_word n.tops q t → t < n.tops → t ≢ 0 → Gone n state.memory state.hands q t → ⊥
 not_gone n state k q t w lt is small some (inl less) =
-    let here = tells state.memory k q t is small in
-    let stamped : stamp state.memory (kind_of n t) ≡ q = ap (stamp state.memory) (top_chained n state.memory state.hands k t lt w.fine here.1 some).1 ∙ here.0 in
+    let here = tells n.tops state.memory k q t is small in
+    let stamped : stamp n.tops state.memory (kind_of n t) ≡ q = ap (stamp n.tops state.memory) (top_chained n state.memory state.hands k t lt w.fine here.1 some).1 ∙ here.0 in
     let no : ⊥ = omega (arith, stamped, less) in no
 not_gone n state k q t w lt is small some (inr above) =
-    subst (λ (o : Owner). ComesAbove q o) (top_chained n state.memory state.hands k t lt w.fine (tells state.memory k q t is small).1 some).0 above
+    subst (λ (o : Owner). ComesAbove q o) (top_chained n state.memory state.hands k t lt w.fine (tells n.tops state.memory k q t is small).1 some).0 above
 
 module _ (n : Sizes) (last : ℕ) (start : Beginning) (k q t : ℕ) (e : Seen n last start k q t) where
   at_loaded : Holds n e.loaded
@@ -30,10 +30,10 @@ module _ (n : Sizes) (last : ℕ) (start : Beginning) (k q t : ℕ) (e : Seen n 
 
   -- the top was of the kind, in its chain
   loaded_top : (e.loaded.hands.owner t ≡ Chained) × (kind_of n t ≡ k)
-  loaded_top = top_chained n e.loaded.memory e.loaded.hands k t e.kind at_loaded.fine (tells e.loaded.memory k q t e.head e.small).1 e.some
+  loaded_top = top_chained n e.loaded.memory e.loaded.hands k t e.kind at_loaded.fine (tells n.tops e.loaded.memory k q t e.head e.small).1 e.some
 
-  loaded_stamp : q ≤ stamp e.loaded.memory (kind_of n t)
-  loaded_stamp = let is : stamp e.loaded.memory (kind_of n t) ≡ q = ap (stamp e.loaded.memory) loaded_top.1 ∙ (tells e.loaded.memory k q t e.head e.small).0 in omega (arith, is)
+  loaded_stamp : q ≤ stamp n.tops e.loaded.memory (kind_of n t)
+  loaded_stamp = let is : stamp n.tops e.loaded.memory (kind_of n t) ≡ q = ap (stamp n.tops e.loaded.memory) loaded_top.1 ∙ (tells n.tops e.loaded.memory k q t e.head e.small).0 in omega (arith, is)
 
   -- what is known at the moment between
   between : StillOrGone n e.loaded e.between q t
@@ -56,17 +56,17 @@ module _ (n : Sizes) (last : ℕ) (start : Beginning) (k q t : ℕ) (e : Seen n 
   times_between : e.between.hands.owner t ≡ Chained → times t (e.between.hands.chain k) ≡ 1
   times_between own = at_between.fine.stands k t ∙ (once_here n k t (e.between.hands.owner t) loaded_top.1 ∙ ap once own)
 
-  pub stood : e.later.memory (Head k) ≡ head_word q t → (times t (e.between.hands.chain k) ≡ 1) × (e.between.memory (Link t) ≡ e.loaded.memory (Link t))
+  pub stood : e.later.memory (Head k) ≡ head_word n.tops q t → (times t (e.between.hands.chain k) ≡ 1) × (e.between.memory (Link t) ≡ e.loaded.memory (Link t))
   stood is = ⊎_elim
       (λ (still : (e.between.hands.owner t ≡ Chained) × (e.between.memory (Link t) ≡ e.loaded.memory (Link t))). (times_between still.0, still.1))
       (λ (gone : Gone n e.between.memory e.between.hands q t). absurd (not_gone n e.later k q t at_later e.kind is e.small e.some (gone_later gone)))
       between
 
-  over : Gone n e.later.memory e.later.hands q t → e.later.hands.owner t ≡ Chained → q < stamp e.later.memory k
-  over (inl lt) own = subst (λ (i : ℕ). q < stamp e.later.memory i) loaded_top.1 lt
+  over : Gone n e.later.memory e.later.hands q t → e.later.hands.owner t ≡ Chained → q < stamp n.tops e.later.memory k
+  over (inl lt) own = subst (λ (i : ℕ). q < stamp n.tops e.later.memory i) loaded_top.1 lt
   over (inr up) own = absurd (subst (λ (o : Owner). ComesAbove q o) own up)
 
-  pub above : times t (e.between.hands.chain k) ≡ 0 → times t (e.later.hands.chain k) ≡ 1 → q < stamp e.later.memory k
+  pub above : times t (e.between.hands.chain k) ≡ 0 → times t (e.later.hands.chain k) ≡ 1 → q < stamp n.tops e.later.memory k
   above left back =
       let own = (in_kind n k t (e.later.hands.owner t) (λ z. let one : 1 ≡ 0 = sym back ∙ (at_later.fine.stands k t ∙ z) in let no : ⊥ = omega (arith, one) in no)).0 in
       over (⊎_elim

@@ -13,7 +13,7 @@ use Rattle.chain_laws.specs.Machine.{Standing, Elsewhere, Claims, PoolState, Poo
 
 -- one kind: slot 1 holds an initial node; 2 and 3 are chained
 sizes : Sizes
-sizes = record { callers = 1; slots = 3; fields = 1; cells = 1; kinds = 3 ∷ [] }
+sizes = record { callers = 1; slots = 3; fields = 1; cells = 1; kinds = 3 ∷ []; tops = 8192 }
 
 beginning : Beginning
 beginning = record { first = 1; warnings = 1; nodes = (0 ∷ []) ∷ []; counts = 1 ∷ []; cells = 0 ∷ [] }
@@ -49,7 +49,7 @@ abbrev after : List PoolEvent → Option PoolState
 after events = pool_run sizes 5 events (pool_start sizes beginning (start_word sizes beginning))
 
 abbrev looks : Standing
-looks = Claims (record { kind = 0; stage = claims.ReadHead; sweeps = 0; sweep = sweep_begun Warned })
+looks = Claims (record { kind = 0; stage = claims.ReadHead; sweeps = 0; sweep = sweep_begun 8192 Warned })
 
 start_seen : seen_in (after []) ≡ Some (record { head = 8194; links = 3 ∷ 0 ∷ []; statuses = 4 ∷ 4 ∷ []; owners = Chained ∷ Chained ∷ []; chain = 2 ∷ 3 ∷ []; standings = Elsewhere ∷ Elsewhere ∷ [] })
 unfolding sizes beginning
@@ -65,7 +65,7 @@ one_takes : seen_in (after two_claims) ≡ Some (record {
   statuses = 4 ∷ 4 ∷ [];
   owners = Taken 0 ∷ Chained ∷ [];
   chain = 3 ∷ [];
-  standings = Claims (record { kind = 0; stage = claims.StoreUsed 1 2; sweeps = 0; sweep = sweep_begun Warned }) ∷ looks ∷ [];
+  standings = Claims (record { kind = 0; stage = claims.StoreUsed 1 2; sweeps = 0; sweep = sweep_begun 8192 Warned }) ∷ looks ∷ [];
 })
 unfolding sizes beginning two_claims
 one_takes = refl
@@ -101,7 +101,7 @@ exchange_fails = (refl, refl)
 
 -- slot 1 is of the first kind, and holds its initial node; 2 and 3 are of the second, and 2 holds that one's
 two_kinds : Sizes
-two_kinds = record { callers = 1; slots = 3; fields = 1; cells = 1; kinds = 1 ∷ 2 ∷ [] }
+two_kinds = record { callers = 1; slots = 3; fields = 1; cells = 1; kinds = 1 ∷ 2 ∷ []; tops = 8192 }
 
 a_node_each : Beginning
 a_node_each = record { first = 1; warnings = 1; nodes = (0 ∷ []) ∷ (0 ∷ []) ∷ []; counts = 1 ∷ 1 ∷ []; cells = 0 ∷ [] }
@@ -146,7 +146,7 @@ unfolding two_kinds a_node_each
 both_start = refl
 
 -- a claim of the first kind finds no slot, although one of the second is ready
-none_of_its_kind : first_standing (after_both (BeginsClaim 0 0 Warned ∷ Steps 0 ∷ [])) ≡ Some (Claims (record { kind = 0; stage = claims.Sweeps; sweeps = 0; sweep = sweep_begun Warned }))
+none_of_its_kind : first_standing (after_both (BeginsClaim 0 0 Warned ∷ Steps 0 ∷ [])) ≡ Some (Claims (record { kind = 0; stage = claims.Sweeps; sweeps = 0; sweep = sweep_begun 8192 Warned }))
 unfolding two_kinds a_node_each
 none_of_its_kind = refl
 
@@ -167,7 +167,7 @@ is_taken = refl
 
 -- two callers, who have announced nothing
 two_callers : Sizes
-two_callers = record { callers = 2; slots = 3; fields = 1; cells = 1; kinds = 1 ∷ 2 ∷ [] }
+two_callers = record { callers = 2; slots = 3; fields = 1; cells = 1; kinds = 1 ∷ 2 ∷ []; tops = 8192 }
 
 unannounced : Beginning
 unannounced = record { first = 1; warnings = 0; nodes = (0 ∷ []) ∷ (0 ∷ []) ∷ []; counts = 1 ∷ 1 ∷ []; cells = 0 ∷ [] }

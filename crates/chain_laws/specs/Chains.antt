@@ -56,12 +56,12 @@ with_top hands k j = record { owner = put hands.owner j Chained; chain = put han
 abbrev pub without_top : Hands → ℕ → ℕ → ℕ → Hands
 without_top hands k c j = record { owner = put hands.owner j (Taken c); chain = put hands.chain k (below_top (hands.chain k)) }
 
--- the phase that a kind's head is stamped with, and the slot on top of its chain
-abbrev pub stamp : (Word → ℕ) → ℕ → ℕ
-stamp memory k = (head_parts (memory (Head k))).phase
+-- the phase that a kind's head is stamped with, and the slot on top of its chain, if the row has so many tops
+abbrev pub stamp : ℕ → (Word → ℕ) → ℕ → ℕ
+stamp tops memory k = (head_parts tops (memory (Head k))).phase
 
-abbrev pub top : (Word → ℕ) → ℕ → ℕ
-top memory k = (head_parts (memory (Head k))).top
+abbrev pub top : ℕ → (Word → ℕ) → ℕ → ℕ
+top tops memory k = (head_parts tops (memory (Head k))).top
 
 abbrev pub links : (Word → ℕ) → ℕ → ℕ
 links memory j = memory (Link j)
@@ -100,10 +100,10 @@ SlotHolds range stamped phase j word (Retired tag) = IsSlot range j × (word ≡
 -- what holds of the pool's words at each moment
 pub record PoolHolds (n : Sizes) (memory : Word → ℕ) (hands : Hands) : Type 0 where
   -- no head's stamp passes the phase
-  pub stamped : (k : ℕ) → k < length n.kinds → stamp memory k ≤ memory Phase
+  pub stamped : (k : ℕ) → k < length n.kinds → stamp n.tops memory k ≤ memory Phase
   -- each kind's chain hangs on its head
-  pub linked : (k : ℕ) → k < length n.kinds → IsChain (links memory) (top memory k) (hands.chain k)
+  pub linked : (k : ℕ) → k < length n.kinds → IsChain (links memory) (top n.tops memory k) (hands.chain k)
   -- each of its slots is of the kind and stands in it once, and no other slot does
   pub stands : (k j : ℕ) → times j (hands.chain k) ≡ once_in n k j (hands.owner j)
   -- each slot has the status that its owner gave it
-  pub slot : (j : ℕ) → SlotHolds (slot_range n) (stamp memory (kind_of n j)) (memory Phase) j (memory (Status j)) (hands.owner j)
+  pub slot : (j : ℕ) → SlotHolds (slot_range n) (stamp n.tops memory (kind_of n j)) (memory Phase) j (memory (Status j)) (hands.owner j)

@@ -12,7 +12,8 @@ use Rattle.chain_laws.specs.Machine.{Standing, Elsewhere, Claims, Retires, slot_
 -- what a caller knows where it stands
 abbrev pub StandsAt : Sizes → (Word → ℕ) → Hands → ℕ → Standing → Type 0
 StandsAt n memory hands c Elsewhere = Unit {0}
-StandsAt n memory hands c (Claims claim) = (claim.kind < length n.kinds) × ClaimStands n memory hands c claim.kind claim.sweep claim.stage
+StandsAt n memory hands c (Claims claim) =
+    (claim.kind < length n.kinds) × ClaimStands n memory hands c claim.kind claim.sweep claim.stage × (claim.sweep.tops ≡ n.tops)
 StandsAt n memory hands c (Retires retirement) = RetireStands hands c retirement.slot retirement.stage
 
 pub record Holds (n : Sizes) (state : PoolState) : Type 0 where
@@ -31,13 +32,13 @@ StartsAs n start memory = (w : Word) → in_row n w ≡ true → memory w ≡ st
 
 -- in each state to which events lead from the start the ready slots of each kind form a chain, and each caller knows what it has to
 abbrev pub ChainsStand : Sizes → ℕ → Beginning → Type 0
-ChainsStand n last start = AreKinds n → n.slots ≤ 4096 → NodesFit n start → (memory : Word → ℕ) → StartsAs n start memory
+ChainsStand n last start = AreKinds n → n.slots < n.tops → NodesFit n start → (memory : Word → ℕ) → StartsAs n start memory
     → (events : List PoolEvent) (state : PoolState) → pool_run n last events (pool_start n start memory) ≡ Some state → Holds n state
 
 -- the head word of a kind that a caller has loaded, with a slot on top, and what happens afterwards
 pub record Seen (n : Sizes) (last : ℕ) (start : Beginning) (k q t : ℕ) : Type 0 where
   pub kinds : AreKinds n
-  pub slots : n.slots ≤ 4096
+  pub slots : n.slots < n.tops
   pub nodes : NodesFit n start
   pub memory : Word → ℕ
   pub starts : StartsAs n start memory
@@ -45,8 +46,8 @@ pub record Seen (n : Sizes) (last : ℕ) (start : Beginning) (k q t : ℕ) : Typ
   pub loaded : PoolState
   pub leads : pool_run n last before (pool_start n start memory) ≡ Some loaded
   pub kind : k < length n.kinds
-  pub head : loaded.memory (Head k) ≡ head_word q t
-  pub small : t < 8192
+  pub head : loaded.memory (Head k) ≡ head_word n.tops q t
+  pub small : t < n.tops
   pub some : t ≢ 0
   pub events : List PoolEvent
   pub between : PoolState
@@ -57,11 +58,11 @@ pub record Seen (n : Sizes) (last : ℕ) (start : Beginning) (k q t : ℕ) : Typ
 
 pub record TopsStand (n : Sizes) (last : ℕ) (start : Beginning) : Type 0 where
   -- if an exchange finds the head word that was loaded, its top has stood in the kind's chain at each moment since, with its link
-  pub stood : (k q t : ℕ) (seen : Seen n last start k q t) → seen.later.memory (Head k) ≡ head_word q t
+  pub stood : (k q t : ℕ) (seen : Seen n last start k q t) → seen.later.memory (Head k) ≡ head_word n.tops q t
       → (times t (seen.between.hands.chain k) ≡ 1) × (seen.between.memory (Link t) ≡ seen.loaded.memory (Link t))
   -- a slot that has left the chain since comes back only under a greater phase
   pub above : (k q t : ℕ) (seen : Seen n last start k q t) → times t (seen.between.hands.chain k) ≡ 0 → times t (seen.later.hands.chain k) ≡ 1
-      → q < stamp seen.later.memory k
+      → q < stamp n.tops seen.later.memory k
 
 -- of all sizes, last phases and beginnings
 abbrev pub OfAll : (Sizes → ℕ → Beginning → Type 0) → Type 0

@@ -21,26 +21,26 @@ use Rattle.chain_laws.specs.Memories.{after_access, put}
 use Rattle.chain_laws.specs.Chains.{Owner, Chained, Taken, Pushing, Outside, Retiring, Retired, Hands, handed, with_top, without_top}
 use Rattle.chain_laws.specs.Standing.{slot_of_claim}
 
--- ---- whose slots are whose after an access
+-- ---- whose slots are whose after an access, in a row with so many tops
 
-abbrev pub sweep_hands : ℕ → ℕ → SweepStage → (Word → ℕ) → Hands → Hands
-sweep_hands c s sweeps.ReadPhase memory hands = hands
-sweep_hands c s (sweeps.RaisePhase p) memory hands = hands
-sweep_hands c s (sweeps.Warn d) memory hands = hands
-sweep_hands c s (sweeps.ReadHazard d r) memory hands = hands
-sweep_hands c s (sweeps.ReadStatus j) memory hands = hands
-sweep_hands c s (sweeps.MakeReady j q) memory hands = if memory (Status j) == status_word q kinds.Retired then handed hands j (Pushing c s) else hands
-sweep_hands c s (sweeps.PushHead k j) memory hands = hands
-sweep_hands c s (sweeps.PushLink j q t) memory hands = hands
-sweep_hands c s (sweeps.PushTop k j q t) memory hands = if memory (Head k) == head_word q t then with_top hands k j else hands
+abbrev pub sweep_hands : ℕ → ℕ → ℕ → SweepStage → (Word → ℕ) → Hands → Hands
+sweep_hands tops c s sweeps.ReadPhase memory hands = hands
+sweep_hands tops c s (sweeps.RaisePhase p) memory hands = hands
+sweep_hands tops c s (sweeps.Warn d) memory hands = hands
+sweep_hands tops c s (sweeps.ReadHazard d r) memory hands = hands
+sweep_hands tops c s (sweeps.ReadStatus j) memory hands = hands
+sweep_hands tops c s (sweeps.MakeReady j q) memory hands = if memory (Status j) == status_word q kinds.Retired then handed hands j (Pushing c s) else hands
+sweep_hands tops c s (sweeps.PushHead k j) memory hands = hands
+sweep_hands tops c s (sweeps.PushLink j q t) memory hands = hands
+sweep_hands tops c s (sweeps.PushTop k j q t) memory hands = if memory (Head k) == head_word tops q t then with_top hands k j else hands
 
-abbrev pub claim_hands : ℕ → ℕ → Sweep → ClaimStage → (Word → ℕ) → Hands → Hands
-claim_hands c k sweep claims.ReadHead memory hands = hands
-claim_hands c k sweep (claims.ReadLink q t) memory hands = hands
-claim_hands c k sweep (claims.Take q t next) memory hands = if memory (Head k) == head_word q t then without_top hands k c t else hands
-claim_hands c k sweep (claims.StoreUsed q t) memory hands = handed hands t Outside
-claim_hands c k sweep (claims.Withdraw own) memory hands = hands
-claim_hands c k sweep claims.Sweeps memory hands = sweep_hands c sweep.bound sweep.stage memory hands
+abbrev pub claim_hands : ℕ → ℕ → ℕ → Sweep → ClaimStage → (Word → ℕ) → Hands → Hands
+claim_hands tops c k sweep claims.ReadHead memory hands = hands
+claim_hands tops c k sweep (claims.ReadLink q t) memory hands = hands
+claim_hands tops c k sweep (claims.Take q t next) memory hands = if memory (Head k) == head_word tops q t then without_top hands k c t else hands
+claim_hands tops c k sweep (claims.StoreUsed q t) memory hands = handed hands t Outside
+claim_hands tops c k sweep (claims.Withdraw own) memory hands = hands
+claim_hands tops c k sweep claims.Sweeps memory hands = sweep_hands tops c sweep.bound sweep.stage memory hands
 
 abbrev pub retire_hands : ℕ → ℕ → RetireStage → (Word → ℕ) → Hands → Hands
 retire_hands c j retires.ReadPhase memory hands = handed hands j (Retiring c (Some (memory Phase)))
@@ -115,7 +115,7 @@ stepped n last state c (Claims claim) =
     let turn = claim_accepts n last claim (state.memory (word_of (claim_wants claim))) in
     Some (record {
       memory = after_access state.memory (claim_wants claim);
-      hands = claim_hands c claim.kind claim.sweep claim.stage state.memory state.hands;
+      hands = claim_hands n.tops c claim.kind claim.sweep claim.stage state.memory state.hands;
       who = put state.who c (claim_left turn.claim turn.ended);
     })
 stepped n last state c (Retires retirement) =

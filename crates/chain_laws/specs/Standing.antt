@@ -26,13 +26,13 @@ ComesAbove q (Retired tag) = q ≤ tag
 
 -- the head of its kind can't be stamped with q over this slot any more
 abbrev pub Gone : Sizes → (Word → ℕ) → Hands → ℕ → ℕ → Type 0
-Gone n memory hands q t = (q < stamp memory (kind_of n t)) ⊎ ComesAbove q (hands.owner t)
+Gone n memory hands q t = (q < stamp n.tops memory (kind_of n t)) ⊎ ComesAbove q (hands.owner t)
 
 -- a look has loaded a kind's head (q, t): t is of the kind and has stood in its chain since, with what is known of its link; or the head
 -- won't be (q, t) again
 abbrev pub Loaded : Sizes → (Word → ℕ) → Hands → ℕ → ℕ → ℕ → Type 0 → Type 0
 Loaded n memory hands k q t IsLinked =
-    (t ≢ 0) × (t < 8192) × (kind_of n t ≡ k) × (q ≤ stamp memory k) × (((hands.owner t ≡ Chained) × IsLinked) ⊎ Gone n memory hands q t)
+    (t ≢ 0) × (t < n.tops) × (kind_of n t ≡ k) × (q ≤ stamp n.tops memory k) × (((hands.owner t ≡ Chained) × IsLinked) ⊎ Gone n memory hands q t)
 
 -- a sweep of c that raises to s and recycles what was retired before low. What it pushes goes to the head of the slot's kind
 abbrev pub SweepStands : Sizes → (Word → ℕ) → Hands → ℕ → ℕ → ℕ → SweepStage → Type 0
@@ -43,9 +43,9 @@ SweepStands n memory hands c s low (sweeps.ReadHazard d r) = (s ≤ memory Phase
 SweepStands n memory hands c s low (sweeps.ReadStatus j) = (s ≤ memory Phase) × (low ≤ s) × (j ≤ n.slots)
 SweepStands n memory hands c s low (sweeps.MakeReady j q) = (s ≤ memory Phase) × (low ≤ s) × (j ≤ n.slots) × (q < low)
 SweepStands n memory hands c s low (sweeps.PushHead k j) = (s ≤ memory Phase) × (low ≤ s) × (hands.owner j ≡ Pushing c s) × (k ≡ kind_of n j)
-SweepStands n memory hands c s low (sweeps.PushLink j q t) = (s ≤ memory Phase) × (low ≤ s) × (hands.owner j ≡ Pushing c s) × (t < 8192)
+SweepStands n memory hands c s low (sweeps.PushLink j q t) = (s ≤ memory Phase) × (low ≤ s) × (hands.owner j ≡ Pushing c s) × (t < n.tops)
 SweepStands n memory hands c s low (sweeps.PushTop k j q t) =
-    (s ≤ memory Phase) × (low ≤ s) × (hands.owner j ≡ Pushing c s) × (k ≡ kind_of n j) × (t < 8192) × (memory (Link j) ≡ t)
+    (s ≤ memory Phase) × (low ≤ s) × (hands.owner j ≡ Pushing c s) × (k ≡ kind_of n j) × (t < n.tops) × (memory (Link j) ≡ t)
 
 -- a claim of c, of a slot of kind k
 abbrev pub ClaimStands : Sizes → (Word → ℕ) → Hands → ℕ → ℕ → Sweep → ClaimStage → Type 0
@@ -88,11 +88,11 @@ HasOnly hands c slot = (j : ℕ) → caller_of (hands.owner j) ≡ Some c → sl
 -- what a step of c may do to the pool, and so to what is known of the others
 pub record MayMove (n : Sizes) (c : ℕ) (memory : Word → ℕ) (hands : Hands) (memory' : Word → ℕ) (hands' : Hands) : Type 0 where
   pub phase : memory Phase ≤ memory' Phase
-  pub stamped : (k : ℕ) → stamp memory k ≤ stamp memory' k
+  pub stamped : (k : ℕ) → stamp n.tops memory k ≤ stamp n.tops memory' k
   -- a slot of a chain stays there with its link, or c takes it
   pub chained : (j : ℕ) → hands.owner j ≡ Chained → ((hands'.owner j ≡ Chained) × (memory' (Link j) ≡ memory (Link j))) ⊎ (hands'.owner j ≡ Taken c)
   -- what comes above a phase up to the stamp still does, or has come
-  pub gone : (q t : ℕ) → q ≤ stamp memory (kind_of n t) → ComesAbove q (hands.owner t) → Gone n memory' hands' q t
+  pub gone : (q t : ℕ) → q ≤ stamp n.tops memory (kind_of n t) → ComesAbove q (hands.owner t) → Gone n memory' hands' q t
   -- what is another's stays so
   pub taken : (j d : ℕ) → d ≢ c → hands.owner j ≡ Taken d → hands'.owner j ≡ Taken d
   pub pushing : (j d s : ℕ) → d ≢ c → hands.owner j ≡ Pushing d s → (hands'.owner j ≡ Pushing d s) × (memory' (Link j) ≡ memory (Link j))

@@ -81,25 +81,29 @@ unfolding after
 claim_goes_on target setting e word claim next at turns =
     let turn : ClaimTurn = claim_accepts setting.sizes setting.last claim word in
     ap (λ (r : Routine). (accepted setting.reclamation target setting word (counted e) r).entry.routine) at
-    ∙ (on_in setting.reclamation target turn.claim turn.ended (claim_counted (claim_takes claim word) (counted e)) (ap (λ (t : ClaimTurn). t.ended) turns) ∙ ap (λ (t : ClaimTurn). Claims t.claim) turns)
+    ∙ (on_in setting.reclamation target turn.claim turn.ended (claim_counted (claim_takes setting.sizes claim word) (counted e)) (ap (λ (t : ClaimTurn). t.ended) turns) ∙ ap (λ (t : ClaimTurn). Claims t.claim) turns)
 
 -- ---- a state
 
-module _ (target : Target) (setting : Setting) (are : AreKinds setting.sizes) (few : setting.sizes.slots ≤ 4096) (state : CoreState) (hands : Hands) (holds : Holds setting.sizes (pool_with setting state hands)) where
+module _ (target : Target) (setting : Setting) (are : AreKinds setting.sizes) (few : setting.sizes.slots < setting.sizes.tops) (state : CoreState) (hands : Hands) (holds : Holds setting.sizes (pool_with setting state hands)) where
   abbrev m : Word → ℕ
   m = words setting state
 
   told : PoolTells setting.sizes (pool_with setting state hands)
   told = pool_tells setting.sizes (pool_with setting state hands) holds
 
-  inside : (k j : ℕ) → k < length setting.sizes.kinds → times j (hands.chain k) ≡ 1 → InChain m k j
+  inside : (k j : ℕ) → k < length setting.sizes.kinds → times j (hands.chain k) ≡ 1 → InChain setting.sizes.tops m k j
   inside k j lt is = stands_in setting.sizes m hands k j lt holds.fine is
 
-  outside : (k j : ℕ) → k < length setting.sizes.kinds → times j (hands.chain k) ≡ 0 → ¬ InChain m k j
+  outside : (k j : ℕ) → k < length setting.sizes.kinds → times j (hands.chain k) ≡ 0 → ¬ InChain setting.sizes.tops m k j
   outside k j lt is = is_out setting.sizes m hands k j lt holds.fine is
 
   standing : (c : ℕ) (claim : Claim) → ((view setting state).who c).routine ≡ Claims claim → StandsAt setting.sizes m hands c (pool.Claims claim)
   standing c claim at = subst (λ (r : Routine). StandsAt setting.sizes m hands c (standing_of r)) at (holds.told c)
+
+  -- the tops of a claim's heads are the row's
+  claim_tops : (c : ℕ) (claim : Claim) → ((view setting state).who c).routine ≡ Claims claim → claim.sweep.tops ≡ setting.sizes.tops
+  claim_tops c claim at = (standing c claim at).2
 
   -- a claim is of a kind of the row
   pub claimed_kind : (c k q j : ℕ) → TakesTop setting state c k q j → k < length setting.sizes.kinds
@@ -129,7 +133,7 @@ module _ (target : Target) (setting : Setting) (are : AreKinds setting.sizes) (f
 
   pub pushed_slot : (c k j below : ℕ) → PutsOnTop setting state c k j below → IsSlot (slot_range setting.sizes) j
   pushed_slot c k j below puts =
-      let stamped : ℕ = stamp m (kind_of setting.sizes j) in
+      let stamped : ℕ = stamp setting.sizes.tops m (kind_of setting.sizes j) in
       let slot : SlotHolds (slot_range setting.sizes) stamped (m Phase) j (m (Status j)) (chains.Pushing c puts.claim.sweep.bound) =
       subst (λ (o : Owner). SlotHolds (slot_range setting.sizes) stamped (m Phase) j (m (Status j)) o) (pushing c k j below puts).2 (holds.fine.slot j) in
       slot.0
@@ -139,9 +143,9 @@ module _ (target : Target) (setting : Setting) (are : AreKinds setting.sizes) (f
   now_carries c k q j later shaped takes goes =
       let step = claim_steps target setting state later c takes.claim shaped takes.at goes in
       let next : Claim = record takes.claim { stage = claims.StoreUsed q j } in
-      let wanted : word_of (claim_wants takes.claim) ≡ Head k = ap (λ (s : ClaimStage). word_of (claim_wants_at takes.claim.kind takes.claim.sweep s)) takes.stage ∙ ap (λ (i : ℕ). Head i) takes.of_kind in
-      let word : m (word_of (claim_wants takes.claim)) ≡ head_word q j = ap m wanted ∙ takes.found in
-      let test : (m (word_of (claim_wants takes.claim)) == head_word q j) ≡ true = grind (arith, nat_tests) in
+      let wanted : word_of (claim_wants takes.claim) ≡ Head k = ap (λ (s : ClaimStage). word_of (claim_wants_at takes.claim.sweep.tops takes.claim.kind takes.claim.sweep s)) takes.stage ∙ ap (λ (i : ℕ). Head i) takes.of_kind in
+      let word : m (word_of (claim_wants takes.claim)) ≡ head_word setting.sizes.tops q j = ap m wanted ∙ takes.found in
+      let test : (m (word_of (claim_wants takes.claim)) == head_word setting.sizes.tops q j) ≡ true = grind (arith, nat_tests) in
       let turns : claim_accepts setting.sizes setting.last takes.claim (m (word_of (claim_wants takes.claim))) ≡ record { claim = next; ended = None } =
       ap (λ (s : ClaimStage). claim_accepts_at setting.sizes setting.last takes.claim (m (word_of (claim_wants takes.claim))) s) takes.stage
       ∙ ap (λ (b : Bool). if b then claim_goes takes.claim (claims.StoreUsed q j) else claim_goes takes.claim claims.ReadHead) test in
@@ -153,17 +157,20 @@ module _ (target : Target) (setting : Setting) (are : AreKinds setting.sizes) (f
 
   -- after a push's exchange the head names the slot
   pub head_put : (c k j below : ℕ) (later : CoreState) → IsShaped target setting state → (puts : PutsOnTop setting state c k j below) → core_event target setting state (Steps c) ≡ Some later
-      → words setting later (Head k) ≡ head_word (max puts.phase puts.claim.sweep.bound) j
+      → words setting later (Head k) ≡ head_word setting.sizes.tops (max puts.phase puts.claim.sweep.bound) j
   head_put c k j below later shaped puts goes =
       let step = claim_steps target setting state later c puts.claim shaped puts.at goes in
       let s = puts.claim.sweep.bound in
-      let test : (m (Head k) == head_word puts.phase below) ≡ true = (let found = puts.found in grind (arith, nat_tests)) in
-      let access : claim_wants puts.claim ≡ Exchanges (Head k) (head_word puts.phase below) (head_word (max puts.phase s) j) =
-      ap (claim_wants_at puts.claim.kind puts.claim.sweep) puts.in_sweep ∙ ap (λ (stage : SweepStage). sweep_wants_at puts.claim.sweep.scheme stage s) puts.stage in
+      let tops = setting.sizes.tops in
+      let own : puts.claim.sweep.tops ≡ tops = claim_tops c puts.claim puts.at in
+      let test : (m (Head k) == head_word tops puts.phase below) ≡ true = (let found = puts.found in grind (arith, nat_tests)) in
+      let access : claim_wants puts.claim ≡ Exchanges (Head k) (head_word tops puts.phase below) (head_word tops (max puts.phase s) j) =
+      ap (claim_wants_at puts.claim.sweep.tops puts.claim.kind puts.claim.sweep) puts.in_sweep ∙ (ap (λ (stage : SweepStage). sweep_wants_at puts.claim.sweep.tops puts.claim.sweep.scheme stage s) puts.stage
+      ∙ ap (λ (n : ℕ). Exchanges (Head k) (head_word n puts.phase below) (head_word n (max puts.phase s) j)) own) in
       ap (λ (memory : Word → ℕ). memory (Head k)) step.memory
       ∙ (ap (λ (a : WordAccess). after_access m a (Head k)) access
-      ∙ (head_here m k (if m (Head k) == head_word puts.phase below then head_word (max puts.phase s) j else m (Head k))
-      ∙ ap (λ (b : Bool). if b then head_word (max puts.phase s) j else m (Head k)) test))
+      ∙ (head_here m k (if m (Head k) == head_word tops puts.phase below then head_word tops (max puts.phase s) j else m (Head k))
+      ∙ ap (λ (b : Bool). if b then head_word tops (max puts.phase s) j else m (Head k)) test))
 
   -- all that is said of a state, with the pool of each state that follows
   pub chained : IsShaped target setting state → ((event_to : CoreState) (c : ℕ) → core_event target setting state (Steps c) ≡ Some event_to → (hands' : Hands) × Holds setting.sizes (pool_with setting event_to hands')) → Chained target setting state
@@ -186,7 +193,7 @@ module _ (target : Target) (setting : Setting) (are : AreKinds setting.sizes) (f
     puts = λ c k j below puts. (let is = told.pushes c puts.claim k j puts.phase below (ap standing_of puts.at) puts.in_sweep puts.stage in (outside k j (pushed_small c k j below puts) (is.2 k), is.1));
     put = λ c k j below later puts goes. on_top c k j below later puts goes;
   } where
-    took : (c k q j : ℕ) (later : CoreState) → TakesTop setting state c k q j → core_event target setting state (Steps c) ≡ Some later → (¬ InChain (words setting later) k j) × Carries setting later c j
+    took : (c k q j : ℕ) (later : CoreState) → TakesTop setting state c k q j → core_event target setting state (Steps c) ≡ Some later → (¬ InChain setting.sizes.tops (words setting later) k j) × Carries setting later c j
     took c k q j later takes goes =
         let there = next later c goes in
         let slot = (taken_slot c k q j takes).0 in
@@ -197,12 +204,12 @@ module _ (target : Target) (setting : Setting) (are : AreKinds setting.sizes) (f
           carries,
         )
 
-    on_top : (c k j below : ℕ) (later : CoreState) → PutsOnTop setting state c k j below → core_event target setting state (Steps c) ≡ Some later → InChain (words setting later) k j × (top (words setting later) k ≡ j)
+    on_top : (c k j below : ℕ) (later : CoreState) → PutsOnTop setting state c k j below → core_event target setting state (Steps c) ≡ Some later → InChain setting.sizes.tops (words setting later) k j × (top setting.sizes.tops (words setting later) k ≡ j)
     on_top c k j below later puts goes =
         let there = next later c goes in
         let slot = pushed_slot c k j below puts in
         let small = pushed_small c k j below puts in
         let some : j ≢ 0 = λ z. omega (arith, slot.0, z) in
-        let is : top (words setting later) k ≡ j = (tells (words setting later) k (max puts.phase puts.claim.sweep.bound) j (head_put c k j below later shaped puts goes) (omega (arith, slot.1, few))).1 in
+        let is : top setting.sizes.tops (words setting later) k ≡ j = (tells setting.sizes.tops (words setting later) k (max puts.phase puts.claim.sweep.bound) j (head_put c k j below later shaped puts goes) (omega (arith, slot.1, few))).1 in
         let own = top_chained setting.sizes (words setting later) there.0 k j small there.1.fine is some in
         (stands_in setting.sizes (words setting later) there.0 k j small there.1.fine (there.1.fine.stands k j ∙ (once_here setting.sizes k j (there.0.owner j) own.1 ∙ ap once own.0)), is)

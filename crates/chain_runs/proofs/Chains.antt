@@ -15,16 +15,16 @@ chain_is_one link t (i ∷ below) (j ∷ lower) a b =
     ap (λ (k : ℕ). k ∷ below) same ∙ ap (λ (rest : List ℕ). j ∷ rest) tail
 
 -- to stand in a kind's chain is to stand in the one that is known
-pub stands_in : (n : Sizes) (memory : Word → ℕ) (hands : Hands) (k j : ℕ) → k < length n.kinds → PoolHolds n memory hands → times j (hands.chain k) ≡ 1 → InChain memory k j
+pub stands_in : (n : Sizes) (memory : Word → ℕ) (hands : Hands) (k j : ℕ) → k < length n.kinds → PoolHolds n memory hands → times j (hands.chain k) ≡ 1 → InChain n.tops memory k j
 stands_in n memory hands k j lt fine once = record { chain = hands.chain k; linked = fine.linked k lt; once = once }
 
-pub is_in : (n : Sizes) (memory : Word → ℕ) (hands : Hands) (k j : ℕ) → k < length n.kinds → PoolHolds n memory hands → InChain memory k j → times j (hands.chain k) ≡ 1
-is_in n memory hands k j lt fine there = ap (times j) (chain_is_one (links memory) (top memory k) (hands.chain k) there.chain (fine.linked k lt) there.linked) ∙ there.once
+pub is_in : (n : Sizes) (memory : Word → ℕ) (hands : Hands) (k j : ℕ) → k < length n.kinds → PoolHolds n memory hands → InChain n.tops memory k j → times j (hands.chain k) ≡ 1
+is_in n memory hands k j lt fine there = ap (times j) (chain_is_one (links memory) (top n.tops memory k) (hands.chain k) there.chain (fine.linked k lt) there.linked) ∙ there.once
 
-pub is_out : (n : Sizes) (memory : Word → ℕ) (hands : Hands) (k j : ℕ) → k < length n.kinds → PoolHolds n memory hands → times j (hands.chain k) ≡ 0 → ¬ InChain memory k j
+pub is_out : (n : Sizes) (memory : Word → ℕ) (hands : Hands) (k j : ℕ) → k < length n.kinds → PoolHolds n memory hands → times j (hands.chain k) ≡ 0 → ¬ InChain n.tops memory k j
 is_out n memory hands k j lt fine none there = let z : 0 ≡ 1 = sym none ∙ is_in n memory hands k j lt fine there in let no : ⊥ = omega (arith, z) in no
 
-pub none_in : (n : Sizes) (memory : Word → ℕ) (hands : Hands) (k j : ℕ) → k < length n.kinds → PoolHolds n memory hands → times j (hands.chain k) ≤ 1 → ¬ InChain memory k j → times j (hands.chain k) ≡ 0
+pub none_in : (n : Sizes) (memory : Word → ℕ) (hands : Hands) (k j : ℕ) → k < length n.kinds → PoolHolds n memory hands → times j (hands.chain k) ≤ 1 → ¬ InChain n.tops memory k j → times j (hands.chain k) ≡ 0
 none_in n memory hands k j lt fine most out = ⊎_elim
     (λ (is : times j (hands.chain k) ≡ 1). absurd (out (stands_in n memory hands k j lt fine is)))
     (λ (ne : times j (hands.chain k) ≢ 1). omega (arith, most, ne))

@@ -8,11 +8,12 @@ use Rattle.barrier_check.specs.Paired.{Paired, IsSound}
 use Rattle.oa_words.specs.Words.{Head, in_row}
 use Rattle.oa_words.specs.Within.{AreKinds}
 use Rattle.oa_words.specs.Packed.{head_parts}
+use Rattle.oa_words.proofs.Parts.{heads_split}
 use Rattle.oa_words.specs.Starts.{Suits}
 use Rattle.phase_pools.specs.Accesses.{WordAccess, Loads, word_of}
 use Rattle.chain_laws.specs.Chains.{stamp}
 use Rattle.chain_laws.proofs.Told.{pool_tells}
-use Rattle.source_machine.specs.Proper.{IsProper}
+use Rattle.source_machine.specs.Proper.{IsProperFor}
 use Rattle.target_laws.specs.target_runs.Runnable.{MayBeWalked}
 use Rattle.caller_parts.specs.declared.setting.Reclamation.TheVariants.{Optimistic}
 use Rattle.caller_parts.specs.Settings.{Setting, Fits, IsSetting}
@@ -49,15 +50,12 @@ from_to : (target : Target) (setting : Setting) (before between all : List CoreE
 from_to target setting before between all state later came goes split =
     sym (run_both target setting before between (core_start target setting) state came) ∙ (ap (λ (events : List CoreEvent). core_run target setting events (core_start target setting)) split ∙ goes)
 
-small : (word : ℕ) → (head_parts word).top < 8192
-small word = omega arith
-
-module _ (target : Target) (text : Text) (setting : Setting) (runs : MayBeWalked target text) (barred : IsBarred target text) (own : IsSetting setting) (fits : Fits target setting) (optimistic : setting.reclamation ≡ Optimistic) (proper : IsProper text) where
+module _ (target : Target) (text : Text) (setting : Setting) (runs : MayBeWalked target text) (barred : IsBarred target text) (own : IsSetting setting) (fits : Fits target setting) (optimistic : setting.reclamation ≡ Optimistic) (proper : IsProperFor setting.sizes.callers text) where
   are : AreKinds setting.sizes
-  are = own.sizes.8
+  are = own.sizes.kinds
 
-  few : setting.sizes.slots ≤ 4096
-  few = (setting_sane setting own).few
+  few : setting.sizes.slots < setting.sizes.tops
+  few = own.sizes.tops
 
   news : NewsFit target setting.sizes
   news = news_fit target setting (methods target text runs) (setting_sane setting own) fits
@@ -101,19 +99,19 @@ module _ (target : Target) (text : Text) (setting : Setting) (runs : MayBeWalked
         let row : in_row setting.sizes (Head k) ≡ true = ap (λ (a : WordAccess). in_row setting.sizes (word_of a)) (sym same) ∙ m.3 in
         grind (arith, nat_tests, row)
 
-    stood : (c k found : ℕ) (load : LastLoad target setting events c k found) → words setting state (Head k) ≡ found → (head_parts found).top ≢ 0
-        → (m : Moment target setting events) → NotAfter target setting events load.at m → StandsAsBefore (words setting load.at.state) (words setting m.state) k (head_parts found).top
+    stood : (c k found : ℕ) (load : LastLoad target setting events c k found) → words setting state (Head k) ≡ found → (head_parts setting.sizes.tops found).top ≢ 0
+        → (m : Moment target setting events) → NotAfter target setting events load.at m → StandsAsBefore setting.sizes.tops (words setting load.at.state) (words setting m.state) k (head_parts setting.sizes.tops found).top
     stood c k found load again some m later =
-        let q = (head_parts found).phase in
-        let t = (head_parts found).top in
+        let q = (head_parts setting.sizes.tops found).phase in
+        let t = (head_parts setting.sizes.tops found).top in
         let lt = loaded_kind c k found load in
         let three : Three target setting are few news suits all k q t = record {
           before = load.at.before;
           loaded = load.at.state;
           leads = load.at.leads;
           kind = lt;
-          head = load.finds ∙ whole found;
-          small = small found;
+          head = load.finds ∙ whole setting.sizes.tops found;
+          small = (heads_split setting.sizes.tops (let room = own.sizes.room in omega (arith, room))).small found;
           some = some;
           events = later.0;
           between = m.state;
@@ -123,11 +121,11 @@ module _ (target : Target) (text : Text) (setting : Setting) (runs : MayBeWalked
           ends = from_to target setting m.before m.rest events m.state state m.leads is m.split;
         } in
         let x = known target setting are few news suits all k q t three in
-        let is = x.stood (again ∙ whole found) in
+        let is = x.stood (again ∙ whole setting.sizes.tops found) in
         record { stands = stands_in setting.sizes (words setting m.state) x.between k t lt x.between_holds.fine is.0; link = is.1 }
 
     above : (c d q k i j below : ℕ) (m : Moment target setting events) → StepsNext target setting events m c → TakesTop setting m.state c k q j → PutsOnTop setting state d i j below
-        → (later : CoreState) → core_event target setting state (Steps d) ≡ Some later → q < stamp (words setting later) i
+        → (later : CoreState) → core_event target setting state (Steps d) ≡ Some later → q < stamp setting.sizes.tops (words setting later) i
     above c d q k i j below m next takes puts later goes =
         let run = from_to target setting m.before (Steps c ∷ next.0) events m.state state m.leads is (sym (ap (λ (rest : List CoreEvent). m.before ++ rest) next.1) ∙ m.split) in
         let first = first_event target setting (Steps c) next.0 m.state state run in
@@ -155,10 +153,10 @@ module _ (target : Target) (text : Text) (setting : Setting) (runs : MayBeWalked
           ends = run_more target setting next.0 (Steps d) first.0 state later first.2 goes;
         } in
         let x = known target setting are few news suits all k q j three in
-        subst (λ (kind : ℕ). q < stamp (words setting later) kind) (sym same)
+        subst (λ (kind : ℕ). q < stamp setting.sizes.tops (words setting later) kind) (sym same)
         (x.above
         (none_in setting.sizes (words setting first.0) x.between k j lt x.between_holds.fine ((pool_tells setting.sizes (pool_with setting first.0 x.between) x.between_holds).once k j) gone)
-        (is_in setting.sizes (words setting later) x.later k j lt x.later_holds.fine (subst (λ (kind : ℕ). InChain (words setting later) kind j) same back)))
+        (is_in setting.sizes (words setting later) x.later k j lt x.later_holds.fine (subst (λ (kind : ℕ). InChain setting.sizes.tops (words setting later) kind j) same back)))
 
 pub slots_are_chained : (pair : Paired) (setting : Setting) → IsSound pair → IsSetting setting → Fits pair.target setting → setting.reclamation ≡ Optimistic → SlotsAreChained pair.target pair.source setting
 slots_are_chained pair setting sound own fits optimistic proper events state is = slots pair.target pair.source setting (record { small = sound.small; normal = sound.normal; within = sound.within; erases = sound.barred.erases }) sound.barred own fits optimistic proper events state is

@@ -8,6 +8,7 @@ use Rattle.oa_words.specs.declared.packed.Kind.TheVariants as kinds
 use Rattle.oa_words.specs.Words.{Word, Phase, Status, Head, Sizes, slot_range}
 use Rattle.oa_words.specs.SlotKinds.{kind_of}
 use Rattle.oa_words.specs.Packed.{head_parts, head_word, status_parts, status_word}
+use Rattle.oa_words.proofs.Parts.{head_whole}
 use Rattle.phase_pools.specs.declared.access.ClaimEnd.{ClaimEnd}
 use Rattle.phase_pools.specs.declared.access.ClaimEnd.TheVariants as ends
 use Rattle.phase_pools.specs.declared.access.SweepEnd.{SweepEnd}
@@ -22,6 +23,7 @@ use Rattle.phase_pools.specs.declared.stages.RetireStage.{RetireStage}
 use Rattle.phase_pools.specs.declared.stages.RetireStage.TheVariants as retires
 use Rattle.phase_pools.specs.Accesses.{WordAccess, Loads, Exchanges, word_of}
 use Rattle.phase_pools.specs.Pools.{Sweep, SweepTurn, sweep_goes, sweep_ends, sweep_on, warn_wanted, sweep_wants_at, sweep_accepts_at, hazard_next, warned_all, warn_next, Claim, ClaimTurn, claim_goes, claim_ends, claim_wants, claim_wants_at, claim_accepts, claim_accepts_at, look_ended, sweep_follows, sweep_ended, retire_wants_at}
+use Rattle.phase_pools.proofs.Keeping.{claim_stays}
 use Rattle.phase_pools.proofs.Statuses.{from_slot, from_status}
 use Rattle.chain_laws.specs.Machine.{Elsewhere}
 use Rattle.chain_laws.proofs.Lists.{each_put}
@@ -51,8 +53,8 @@ steps_same : (c d : ℕ) → Steps c ≡ Steps d → c ≡ d
 steps_same c d is = cc
 
 -- the parts of a head word make it
-pub whole : (word : ℕ) → word ≡ head_word (head_parts word).phase (head_parts word).top
-whole word = omega arith
+pub whole : (tops word : ℕ) → word ≡ head_word tops (head_parts tops word).phase (head_parts tops word).top
+whole tops word = sym (head_whole tops word)
 
 -- what holds of both holds of the one that a test chooses
 either_way : {A : Type 0} (P : A → Type 0) (b : Bool) (x y : A) → P x → P y → P (if b then x else y)
@@ -105,7 +107,7 @@ module _ (target : Target) (setting : Setting) where
   -- ---- a caller in a look or a push
 
   abbrev Found : List CoreEvent → ℕ → ℕ → ℕ → ℕ → Type 0
-  Found events c i q t = LastLoad target setting events c i (head_word q t)
+  Found events c i q t = LastLoad target setting events c i (head_word setting.sizes.tops q t)
 
   -- a push goes to the head of its slot's kind
   abbrev AtSweep : List CoreEvent → ℕ → SweepStage → Type 0
@@ -121,7 +123,7 @@ module _ (target : Target) (setting : Setting) where
   AtStage events c i sweep _ = Unit {0}
 
   abbrev AtRoutine : List CoreEvent → ℕ → Routine → Type 0
-  AtRoutine events c (Claims claim) = AtStage events c claim.kind claim.sweep claim.stage
+  AtRoutine events c (Claims claim) = (claim.sweep.tops ≡ setting.sizes.tops) × AtStage events c claim.kind claim.sweep claim.stage
   AtRoutine events c _ = Unit {0}
 
   -- what a caller that doesn't move keeps
@@ -139,7 +141,7 @@ module _ (target : Target) (setting : Setting) where
     stays_stage i sweep _ k = tt
 
     stays_routine : (r : Routine) → AtRoutine past c r → AtRoutine more c r
-    stays_routine (Claims claim) k = stays_stage claim.kind claim.sweep claim.stage k
+    stays_routine (Claims claim) k = (k.0, stays_stage claim.kind claim.sweep claim.stage k.1)
     stays_routine _ k = tt
 
   -- ---- a step of a claim
@@ -147,12 +149,12 @@ module _ (target : Target) (setting : Setting) where
   -- what the access that c wants makes of its last load of each head: another access than a load of the head keeps it, a load of it is it
   record Turns (past : List CoreEvent) (c : ℕ) (memory : Word → ℕ) (a : WordAccess) : Type 0 where
     keeps : (i q t : ℕ) → a ≢ Loads (Head i) → Found past c i q t → Found (past ++ Steps c ∷ []) c i q t
-    loads : (i : ℕ) → a ≡ Loads (Head i) → Found (past ++ Steps c ∷ []) c i (head_parts (memory (Head i))).phase (head_parts (memory (Head i))).top
+    loads : (i : ℕ) → a ≡ Loads (Head i) → Found (past ++ Steps c ∷ []) c i (head_parts setting.sizes.tops (memory (Head i))).phase (head_parts setting.sizes.tops (memory (Head i))).top
 
   turns_by : (past : List CoreEvent) (state : CoreState) (c : ℕ) (a : WordAccess) → core_run target setting past (core_start target setting) ≡ Some state → wants target ((view setting state).who c) ≡ Some a → Turns past c (words setting state) a
   turns_by past state c a runs want = record {
-    keeps = λ i q t other l. still_loaded past state (Steps c) c i (head_word q t) runs (λ same load. other (same_access a (Loads (Head i)) (sym want ∙ load))) l;
-    loads = λ i is. loaded_now past state c i _ runs (want ∙ ap Some is) (whole (words setting state (Head i)));
+    keeps = λ i q t other l. still_loaded past state (Steps c) c i (head_word setting.sizes.tops q t) runs (λ same load. other (same_access a (Loads (Head i)) (sym want ∙ load))) l;
+    loads = λ i is. loaded_now past state c i _ runs (want ∙ ap Some is) (whole setting.sizes.tops (words setting state (Head i)));
   }
 
   abbrev SweepNow : List CoreEvent → ℕ → SweepTurn → Option SweepEnd → Type 0
@@ -190,8 +192,8 @@ module _ (target : Target) (setting : Setting) where
     warn_onward : (scheme : Scheme) (d : ℕ) → AtSweep now c (warn_next n scheme d)
     warn_onward scheme d = either_way (AtSweep now c) (nat_lt (d + 1) n.callers) (sweeps.Warn (d + 1)) (warned_all n scheme) tt (all_warned scheme)
 
-    sweep_onwards : (last : ℕ) (sweep : Sweep) (stage : SweepStage) → Turns past c memory (sweep_wants_at sweep.scheme stage sweep.bound) → AtSweep past c stage
-        → IsSwept (sweep_accepts_at n last sweep (memory (word_of (sweep_wants_at sweep.scheme stage sweep.bound))) stage)
+    sweep_onwards : (last : ℕ) (sweep : Sweep) (stage : SweepStage) → Turns past c memory (sweep_wants_at sweep.tops sweep.scheme stage sweep.bound) → AtSweep past c stage
+        → IsSwept (sweep_accepts_at n last sweep (memory (word_of (sweep_wants_at sweep.tops sweep.scheme stage sweep.bound))) stage)
     sweep_onwards last sweep sweeps.ReadPhase t k = either_way IsSwept (memory Phase == last) (sweep_ends sweep (swept.PhasesOver (memory Phase))) (sweep_goes sweep (sweeps.RaisePhase (memory Phase))) tt tt
     sweep_onwards last sweep (sweeps.RaisePhase p) t k = tt
     sweep_onwards last sweep (sweeps.Warn d) t k = warn_onward sweep.scheme d
@@ -199,9 +201,9 @@ module _ (target : Target) (setting : Setting) where
     sweep_onwards last sweep (sweeps.ReadStatus j) t k = from_status IsSwept n sweep j (status_parts (memory (Status j))) (sweep_onward sweep j) (λ p is below away. tt)
     sweep_onwards last sweep (sweeps.MakeReady j q) t k = either_way IsSwept (memory (Status j) == status_word q kinds.Retired) (sweep_goes sweep (sweeps.PushHead (kind_of n j) j)) (sweep_on n sweep j) refl (sweep_onward sweep j)
     sweep_onwards last sweep (sweeps.PushHead i j) t k =
-        subst (λ (kind : ℕ). Found now c kind (head_parts (memory (Head i))).phase (head_parts (memory (Head i))).top) k (t.loads i refl)
+        subst (λ (kind : ℕ). Found now c kind (head_parts setting.sizes.tops (memory (Head i))).phase (head_parts setting.sizes.tops (memory (Head i))).top) k (t.loads i refl)
     sweep_onwards last sweep (sweeps.PushLink j q x) t k = t.keeps (kind_of n j) q x (λ is. cc) k
-    sweep_onwards last sweep (sweeps.PushTop i j q x) t k = either_way IsSwept (memory (Head i) == head_word q x) (sweep_on n sweep j) (sweep_goes sweep (sweeps.PushHead (kind_of n j) j)) (sweep_onward sweep j) refl
+    sweep_onwards last sweep (sweeps.PushTop i j q x) t k = either_way IsSwept (memory (Head i) == head_word n.tops q x) (sweep_on n sweep j) (sweep_goes sweep (sweeps.PushHead (kind_of n j) j)) (sweep_onward sweep j) refl
 
     follows_onward : (claim : Claim) (scheme : Scheme) (made : ℕ) → IsClaimed (sweep_follows scheme made claim)
     follows_onward claim (Announced own) zero = tt
@@ -215,16 +217,16 @@ module _ (target : Target) (setting : Setting) where
     swept_onward claim turn (Some swept.Swept) is k = tt
     swept_onward claim turn (Some (swept.PhasesOver p)) is k = tt
 
-    claim_onwards : (last : ℕ) (claim : Claim) (stage : ClaimStage) → claim.stage ≡ stage → Turns past c memory (claim_wants_at claim.kind claim.sweep stage) → AtStage past c claim.kind claim.sweep stage
-        → IsClaimed (claim_accepts_at n last claim (memory (word_of (claim_wants_at claim.kind claim.sweep stage))) stage)
+    claim_onwards : (last : ℕ) (claim : Claim) (stage : ClaimStage) → claim.stage ≡ stage → Turns past c memory (claim_wants_at claim.sweep.tops claim.kind claim.sweep stage) → AtStage past c claim.kind claim.sweep stage
+        → IsClaimed (claim_accepts_at n last claim (memory (word_of (claim_wants_at claim.sweep.tops claim.kind claim.sweep stage))) stage)
     claim_onwards last claim claims.ReadHead is t k =
-        let parts = head_parts (memory (Head claim.kind)) in either_way IsClaimed (parts.top == 0) (look_ended claim) (claim_goes claim (claims.ReadLink parts.phase parts.top)) (look_onward claim) (t.loads claim.kind refl)
+        let parts = head_parts n.tops (memory (Head claim.kind)) in either_way IsClaimed (parts.top == 0) (look_ended claim) (claim_goes claim (claims.ReadLink parts.phase parts.top)) (look_onward claim) (t.loads claim.kind refl)
     claim_onwards last claim (claims.ReadLink q x) is t k = t.keeps claim.kind q x (λ same. cc) k
-    claim_onwards last claim (claims.Take q x next) is t k = either_way IsClaimed (memory (Head claim.kind) == head_word q x) (claim_goes claim (claims.StoreUsed q x)) (claim_goes claim claims.ReadHead) tt tt
+    claim_onwards last claim (claims.Take q x next) is t k = either_way IsClaimed (memory (Head claim.kind) == head_word n.tops q x) (claim_goes claim (claims.StoreUsed q x)) (claim_goes claim claims.ReadHead) tt tt
     claim_onwards last claim (claims.StoreUsed q x) is t k = tt
     claim_onwards last claim (claims.Withdraw own) is t k = tt
     claim_onwards last claim claims.Sweeps is t k =
-        let turn = sweep_accepts_at n last claim.sweep (memory (word_of (sweep_wants_at claim.sweep.scheme claim.sweep.stage claim.sweep.bound))) claim.sweep.stage in
+        let turn = sweep_accepts_at n last claim.sweep (memory (word_of (sweep_wants_at claim.sweep.tops claim.sweep.scheme claim.sweep.stage claim.sweep.bound))) claim.sweep.stage in
         swept_onward claim turn turn.ended is (sweep_onwards last claim.sweep claim.sweep.stage t k)
 
     -- a claim that goes on hasn't ended
@@ -234,7 +236,7 @@ module _ (target : Target) (setting : Setting) where
   -- ---- events
 
   begins_loadless : (events : List CoreEvent) (c : ℕ) → HoldsAtBegins target setting.sizes (AtRoutine events c)
-  begins_loadless events c = record { idle = tt; seen = λ why. tt; here = tt; lists = λ k. tt; retires = λ j go. tt; restarts = tt; clears = λ next. tt; claims = λ e scheme. tt; zeroes = λ k field. tt; announces = λ announcing. tt }
+  begins_loadless events c = record { idle = tt; seen = λ why. tt; here = tt; lists = λ k. tt; retires = λ j go. tt; restarts = tt; clears = λ next. tt; claims = λ e scheme. (refl, tt); zeroes = λ k field. tt; announces = λ announcing. tt }
 
   own_step : (past : List CoreEvent) (state : CoreState) (c : ℕ) (a : WordAccess) → core_run target setting past (core_start target setting) ≡ Some state → wants target ((view setting state).who c) ≡ Some a → AtRoutine past c ((view setting state).who c).routine
       → AtRoutine (past ++ Steps c ∷ []) c (after target setting ((view setting state).who c) (words setting state (word_of a))).routine
@@ -246,13 +248,14 @@ module _ (target : Target) (setting : Setting) where
         → AtRoutine (past ++ Steps c ∷ []) c (Claims (claim_accepts setting.sizes setting.last claim (words setting state (word_of a))).claim)
     goes_on claim same goes =
         let is : a ≡ claim_wants claim = same_access a (claim_wants claim) (sym want ∙ wants_claims target ((view setting state).who c) claim same) in
-        let here : AtStage past c claim.kind claim.sweep claim.stage = subst (AtRoutine past c) same k in
+        let here : AtRoutine past c (Claims claim) = subst (AtRoutine past c) same k in
         let turns : Turns past c (words setting state) (claim_wants claim) = subst (Turns past c (words setting state)) is (turns_by past state c a runs want) in
-        let on = claim_onwards past c (words setting state) setting.last claim claim.stage refl turns here in
+        let on = claim_onwards past c (words setting state) setting.last claim claim.stage refl turns here.1 in
         let ended : (claim_accepts setting.sizes setting.last claim (words setting state (word_of (claim_wants claim)))).ended ≡ None =
         ap (λ (b : WordAccess). (claim_accepts setting.sizes setting.last claim (words setting state (word_of b))).ended) (sym is) ∙ goes in
+        let found : ℕ = words setting state (word_of (claim_wants claim)) in
         subst (λ (b : WordAccess). AtRoutine (past ++ Steps c ∷ []) c (Claims (claim_accepts setting.sizes setting.last claim (words setting state (word_of b))).claim)) (sym is)
-        (not_ended past c (words setting state) (claim_accepts setting.sizes setting.last claim (words setting state (word_of (claim_wants claim)))) ended on)
+        ((claim_stays setting.sizes setting.last claim found).tops ∙ here.0, not_ended past c (words setting state) (claim_accepts setting.sizes setting.last claim found) ended on)
 
   abbrev AllAt : List CoreEvent → CoreState → Type 0
   AllAt events state = (c : ℕ) → c < setting.sizes.callers → AtRoutine events c ((view setting state).who c).routine
@@ -267,14 +270,14 @@ module _ (target : Target) (setting : Setting) where
       subst (λ (who : ℕ → Entry). (c : ℕ) → c < setting.sizes.callers → AtRoutine (past ++ Takes d call ∷ []) c (who c).routine) (sym m.4)
       (each_put (λ c (e : Entry). c < setting.sizes.callers → AtRoutine (past ++ Takes d call ∷ []) c e.routine) (view setting state).who d (taken setting.reclamation call ((view setting state).who d)) (λ lt. taken_at (past ++ Takes d call ∷ []) d setting.reclamation)
       (λ c ne lt. stays_routine past (past ++ Takes d call ∷ []) c
-      (λ i q t l. still_loaded past state (Takes d call) c i (head_word q t) runs (λ same. absurd (let no : Takes d call ≡ Steps c = same in cc)) l)
+      (λ i q t l. still_loaded past state (Takes d call) c i (head_word setting.sizes.tops q t) runs (λ same. absurd (let no : Takes d call ≡ Steps c = same in cc)) l)
       ((view setting state).who c).routine (all c lt)))
   event_at past state later (Steps d) runs m all =
       subst (λ (who : ℕ → Entry). (c : ℕ) → c < setting.sizes.callers → AtRoutine (past ++ Steps d ∷ []) c (who c).routine) (sym m.5)
       (each_put (λ c (e : Entry). c < setting.sizes.callers → AtRoutine (past ++ Steps d ∷ []) c e.routine) (view setting state).who d (after target setting ((view setting state).who d) ((view setting state).memory (word_of m.0)))
       (λ lt. own_step past state d m.0 runs m.2 (all d lt))
       (λ c ne lt. stays_routine past (past ++ Steps d ∷ []) c
-      (λ i q t l. still_loaded past state (Steps d) c i (head_word q t) runs (λ same. absurd (ne (sym (steps_same d c same)))) l)
+      (λ i q t l. still_loaded past state (Steps d) c i (head_word setting.sizes.tops q t) runs (λ same. absurd (ne (sym (steps_same d c same)))) l)
       ((view setting state).who c).routine (all c lt)))
 
   -- ---- runs
@@ -312,29 +315,30 @@ module _ (target : Target) (setting : Setting) where
   expected_is : (j i x y expected replacement : ℕ) → Exchanges (Head j) x y ≡ Exchanges (Head i) expected replacement → x ≡ expected
   expected_is j i x y expected replacement is = cc
 
-  found_is : (events : List CoreEvent) (c j i q t y expected replacement : ℕ) → Found events c j q t → Exchanges (Head j) (head_word q t) y ≡ Exchanges (Head i) expected replacement → LastLoad target setting events c i expected
+  found_is : (events : List CoreEvent) (c j i q t y expected replacement : ℕ) → Found events c j q t → Exchanges (Head j) (head_word setting.sizes.tops q t) y ≡ Exchanges (Head i) expected replacement → LastLoad target setting events c i expected
   found_is events c j i q t y expected replacement k is =
-      subst (LastLoad target setting events c i) (expected_is j i (head_word q t) y expected replacement is)
-      (subst (λ (kind : ℕ). LastLoad target setting events c kind (head_word q t)) (head_is j i (head_word q t) y expected replacement is) k)
+      subst (LastLoad target setting events c i) (expected_is j i (head_word setting.sizes.tops q t) y expected replacement is)
+      (subst (λ (kind : ℕ). LastLoad target setting events c kind (head_word setting.sizes.tops q t)) (head_is j i (head_word setting.sizes.tops q t) y expected replacement is) k)
 
   warning : (scheme : Scheme) (d bound i expected replacement : ℕ) → warn_wanted scheme d bound ≡ Exchanges (Head i) expected replacement → ⊥
   warning Warned d bound i expected replacement is = cc
   warning (Announced own) d bound i expected replacement is = cc
 
-  sweeping : (events : List CoreEvent) (c i expected replacement : ℕ) (scheme : Scheme) (bound : ℕ) (stage : SweepStage) → AtSweep events c stage → sweep_wants_at scheme stage bound ≡ Exchanges (Head i) expected replacement → LastLoad target setting events c i expected
+  sweeping : (events : List CoreEvent) (c i expected replacement : ℕ) (scheme : Scheme) (bound : ℕ) (stage : SweepStage) → AtSweep events c stage → sweep_wants_at setting.sizes.tops scheme stage bound ≡ Exchanges (Head i) expected replacement → LastLoad target setting events c i expected
   sweeping events c i expected replacement scheme bound (sweeps.Warn d) k is = absurd (warning scheme d bound i expected replacement is)
   sweeping events c i expected replacement scheme bound (sweeps.PushTop m j q t) k is = found_is events c m i q t _ expected replacement k is
   sweeping events c i expected replacement scheme bound _ k is = absurd cc
 
-  claiming : (events : List CoreEvent) (c i expected replacement kind : ℕ) (sweep : Sweep) (stage : ClaimStage) → AtStage events c kind sweep stage → claim_wants_at kind sweep stage ≡ Exchanges (Head i) expected replacement → LastLoad target setting events c i expected
-  claiming events c i expected replacement kind sweep (claims.Take q t next) k is = found_is events c kind i q t _ expected replacement k is
-  claiming events c i expected replacement kind sweep claims.Sweeps k is = sweeping events c i expected replacement sweep.scheme sweep.bound sweep.stage k is
-  claiming events c i expected replacement kind sweep _ k is = absurd cc
+  claiming : (events : List CoreEvent) (c i expected replacement kind : ℕ) (sweep : Sweep) (stage : ClaimStage) → sweep.tops ≡ setting.sizes.tops → AtStage events c kind sweep stage → claim_wants_at sweep.tops kind sweep stage ≡ Exchanges (Head i) expected replacement → LastLoad target setting events c i expected
+  claiming events c i expected replacement kind sweep (claims.Take q t next) own k is = found_is events c kind i q t _ expected replacement k (ap (λ (tops : ℕ). Exchanges (Head kind) (head_word tops q t) (head_word sweep.tops q next)) (sym own) ∙ is)
+  claiming events c i expected replacement kind sweep claims.Sweeps own k is =
+      sweeping events c i expected replacement sweep.scheme sweep.bound sweep.stage k (ap (λ (tops : ℕ). sweep_wants_at tops sweep.scheme sweep.stage sweep.bound) (sym own) ∙ is)
+  claiming events c i expected replacement kind sweep _ own k is = absurd cc
 
   expects_at : (events : List CoreEvent) (c i expected replacement : ℕ) (e : Entry) (r : Routine) → e.routine ≡ r → AtRoutine events c r → wants target e ≡ Some (Exchanges (Head i) expected replacement) → LastLoad target setting events c i expected
   expects_at events c i expected replacement e (Retires retirement go) at k want =
       absurd (retiring retirement.slot retirement.stage i expected replacement (same_access _ _ (sym (wants_retires target e retirement go at) ∙ want)))
-  expects_at events c i expected replacement e (Claims claim) at k want = claiming events c i expected replacement claim.kind claim.sweep claim.stage k (same_access _ _ (sym (wants_claims target e claim at) ∙ want))
+  expects_at events c i expected replacement e (Claims claim) at k want = claiming events c i expected replacement claim.kind claim.sweep claim.stage k.0 k.1 (same_access _ _ (sym (wants_claims target e claim at) ∙ want))
   expects_at events c i expected replacement e _ at k want = absurd (elsewhere e i expected replacement (ap standing_of at) want)
 
   -- at every state of a run

@@ -29,7 +29,7 @@ pub record Retiring (target : Target) (setting : Setting) (state : CoreState) : 
 abbrev pub AllRetiring : Target → Setting → Type 0
 AllRetiring target setting = (state : CoreState) → Reachable target setting state → Retiring target setting state
 
-module _ (target : Target) (setting : Setting) (are : AreKinds setting.sizes) (few : setting.sizes.slots ≤ 4096) (news : NewsFit target setting.sizes) (suits : Suits setting.sizes (beginning_of target setting)) (all : AllRetiring target setting) where
+module _ (target : Target) (setting : Setting) (are : AreKinds setting.sizes) (few : setting.sizes.slots < setting.sizes.tops) (news : NewsFit target setting.sizes) (suits : Suits setting.sizes (beginning_of target setting)) (all : AllRetiring target setting) where
   pub runs_on : (events : List CoreEvent) (state later : CoreState) (hands : Hands) → Reachable target setting state → Holds setting.sizes (pool_with setting state hands) → core_run target setting events state ≡ Some later → PoolRuns setting state hands later
   runs_on [] state later hands reached holds is = subst (PoolRuns setting state hands) (some_is state later is) (hands, ([], refl))
   runs_on (event ∷ events) state later hands reached holds is =
@@ -75,8 +75,8 @@ module _ (target : Target) (setting : Setting) (are : AreKinds setting.sizes) (f
     pub loaded : CoreState
     pub leads : core_run target setting before (core_start target setting) ≡ Some loaded
     pub kind : k < length setting.sizes.kinds
-    pub head : (view setting loaded).memory (Head k) ≡ head_word q t
-    pub small : t < 8192
+    pub head : (view setting loaded).memory (Head k) ≡ head_word setting.sizes.tops q t
+    pub small : t < setting.sizes.tops
     pub some : t ≢ 0
     pub events : List CoreEvent
     pub between : CoreState
@@ -91,8 +91,8 @@ module _ (target : Target) (setting : Setting) (are : AreKinds setting.sizes) (f
     pub between_holds : Holds setting.sizes (pool_with setting x.between between)
     pub later : Hands
     pub later_holds : Holds setting.sizes (pool_with setting x.later later)
-    pub stood : (view setting x.later).memory (Head k) ≡ head_word q t → (times t (between.chain k) ≡ 1) × ((view setting x.between).memory (Link t) ≡ (view setting x.loaded).memory (Link t))
-    pub above : times t (between.chain k) ≡ 0 → times t (later.chain k) ≡ 1 → q < stamp (view setting x.later).memory k
+    pub stood : (view setting x.later).memory (Head k) ≡ head_word setting.sizes.tops q t → (times t (between.chain k) ≡ 1) × ((view setting x.between).memory (Link t) ≡ (view setting x.loaded).memory (Link t))
+    pub above : times t (between.chain k) ≡ 0 → times t (later.chain k) ≡ 1 → q < stamp setting.sizes.tops (view setting x.later).memory k
 
   pub known : (k q t : ℕ) (x : Three k q t) → Known k q t x
   known k q t x =

@@ -6,7 +6,7 @@ use Rattle.oa_words.specs.Words.{Word, Head, Link}
 use Rattle.oa_words.specs.Packed.{head_parts}
 use Rattle.phase_pools.specs.Accesses.{Loads, Exchanges}
 use Rattle.chain_laws.specs.Chains.{stamp}
-use Rattle.source_machine.specs.Proper.{IsProper}
+use Rattle.source_machine.specs.Proper.{IsProperFor}
 use Rattle.caller_parts.specs.Settings.{Setting}
 use Rattle.caller_steps.specs.Wants.{wants}
 use Rattle.core_runs.specs.Machine.{CoreState, CoreEvent, Steps, core_event, core_run, core_start}
@@ -41,8 +41,8 @@ pub record LastLoad (target : Target) (setting : Setting) (events : List CoreEve
   pub last : (m : Moment target setting events) → LoadsHead target setting events m c k → NotAfter target setting events m at
 
 -- a slot as it stood in a kind's chain at a moment, with its link
-pub record StandsAsBefore (before now : Word → ℕ) (k j : ℕ) : Type 0 where
-  pub stands : InChain now k j
+pub record StandsAsBefore (tops : ℕ) (before now : Word → ℕ) (k j : ℕ) : Type 0 where
+  pub stands : InChain tops now k j
   pub link : now (Link j) ≡ before (Link j)
 
 -- after a run's events, in the state that they lead to
@@ -52,12 +52,12 @@ pub record Stood (target : Target) (setting : Setting) (events : List CoreEvent)
       → LastLoad target setting events c k expected
   -- if the head word is what that load found, and a slot is on top, that slot has stood in the kind's chain at each moment since the
   -- load, and its link is unchanged
-  pub stood : (c k found : ℕ) (load : LastLoad target setting events c k found) → words setting state (Head k) ≡ found → (head_parts found).top ≢ 0
-      → (m : Moment target setting events) → NotAfter target setting events load.at m → StandsAsBefore (words setting load.at.state) (words setting m.state) k (head_parts found).top
+  pub stood : (c k found : ℕ) (load : LastLoad target setting events c k found) → words setting state (Head k) ≡ found → (head_parts setting.sizes.tops found).top ≢ 0
+      → (m : Moment target setting events) → NotAfter target setting events load.at m → StandsAsBefore setting.sizes.tops (words setting load.at.state) (words setting m.state) k (head_parts setting.sizes.tops found).top
   -- a slot that was taken from under a head with phase q is pushed again only under a greater phase
   pub above : (c d q k i j below : ℕ) (m : Moment target setting events) → StepsNext target setting events m c → TakesTop setting m.state c k q j → PutsOnTop setting state d i j below
-      → (later : CoreState) → core_event target setting state (Steps d) ≡ Some later → q < stamp (words setting later) i
+      → (later : CoreState) → core_event target setting state (Steps d) ≡ Some later → q < stamp setting.sizes.tops (words setting later) i
 
--- of a proper text
+-- of a text that is proper for the setting's callers
 abbrev pub TopsHaveStood : Target → Text → Setting → Type 0
-TopsHaveStood target text setting = IsProper text → (events : List CoreEvent) (state : CoreState) → core_run target setting events (core_start target setting) ≡ Some state → Stood target setting events state
+TopsHaveStood target text setting = IsProperFor setting.sizes.callers text → (events : List CoreEvent) (state : CoreState) → core_run target setting events (core_start target setting) ≡ Some state → Stood target setting events state

@@ -352,7 +352,7 @@ step_avoids by target setting j word e (Clears next) some is f a found =
     cleared_avoids target setting.sizes j some next (with_hand e (unguarded (clear_next target next e) e.hand)) (cleared_free target setting.sizes j some (clear_next target next e) e f)
 step_avoids by target setting j word e (Claims claim) some is f a found =
     let turn = claim_accepts setting.sizes setting.last claim word in
-    claim_avoids target setting.sizes j some by turn.claim turn.ended (claim_counted (claim_takes claim word) e) (record { registers = f.registers; started = f.started; guards = f.guards; cradles = f.cradles }) found
+    claim_avoids target setting.sizes j some by turn.claim turn.ended (claim_counted (claim_takes setting.sizes claim word) e) (record { registers = f.registers; started = f.started; guards = f.guards; cradles = f.cradles }) found
 step_avoids by target setting j word e (Zeroes k field) some is f a found = zeroed_avoids target setting.sizes j some by k field e f
 step_avoids by target setting j word e (Announces announcing) some is f a found = announcing_avoids target setting.sizes j some announcing word e f
 

@@ -386,11 +386,11 @@ module _ (target : Target) (setting : Setting) (sane : Methods target) (row : Se
       abbrev Outcome : Entry → Type 0
       Outcome x = Going target setting e x all ⊎ Ended target e x
 
-      later_is : later ≡ (claim_on setting.reclamation target turn.claim turn.ended (claim_counted (claim_takes claim word) (counted e))).entry
+      later_is : later ≡ (claim_on setting.reclamation target turn.claim turn.ended (claim_counted (claim_takes setting.sizes claim word) (counted e))).entry
       later_is = after_is target setting e word ∙ ap (λ (m : Moved). m.entry) (moved_claims setting.reclamation target setting e word claim there)
 
       -- as the claim's stage says
-      later_by : (takes : Bool) (x : ClaimTurn) → claim_takes claim word ≡ takes → turn ≡ x → later ≡ (claim_on setting.reclamation target x.claim x.ended (claim_counted takes (counted e))).entry
+      later_by : (takes : Bool) (x : ClaimTurn) → claim_takes setting.sizes claim word ≡ takes → turn ≡ x → later ≡ (claim_on setting.reclamation target x.claim x.ended (claim_counted takes (counted e))).entry
       later_by takes x same is =
           later_is ∙ ap (λ (b : Bool). (claim_on setting.reclamation target turn.claim turn.ended (claim_counted b (counted e))).entry) same
           ∙ ap (λ (y : ClaimTurn). (claim_on setting.reclamation target y.claim y.ended (claim_counted takes (counted e))).entry) is
@@ -487,8 +487,8 @@ module _ (target : Target) (setting : Setting) (sane : Methods target) (row : Se
         stands : ClaimStands setting claim.sweep.scheme claim.kind claim.stage
         stands = (let all_stands : Stands target setting e (Claims claim) = subst (Stands target setting e) there b.stands in all_stands.1.stands)
 
-        other : (stage : ClaimStage) → claim.stage ≡ stage → takes_at stage word ≡ false → (TookAt stage → ⊥) → Outcome later
-        other stage is takes none = subst Outcome (sym (later_by false turn (ap (λ (x : ClaimStage). takes_at x word) is ∙ takes) refl))
+        other : (stage : ClaimStage) → claim.stage ≡ stage → takes_at setting.sizes.tops stage word ≡ false → (TookAt stage → ⊥) → Outcome later
+        other stage is takes none = subst Outcome (sym (later_by false turn (ap (λ (x : ClaimStage). takes_at setting.sizes.tops x word) is ∙ takes) refl))
             (by_end (none_yet (λ took. none (subst TookAt is took)) standing) turn.claim turn.ended on)
 
         of : (stage : ClaimStage) → claim.stage ≡ stage → Outcome later
@@ -498,14 +498,14 @@ module _ (target : Target) (setting : Setting) (sane : Methods target) (row : Se
         of claims.Sweeps is = other claims.Sweeps is refl (λ z. z)
         of (claims.StoreUsed q t) is =
             let low : (1 ≤ t) × (t ≤ setting.sizes.slots) × (q ≤ setting.last) × (kind_of setting.sizes t ≡ claim.kind) = subst (ClaimStands setting claim.sweep.scheme claim.kind) is stands in
-            subst Outcome (sym (later_by false (claim_ends claim (ends.Claimed t)) (ap (λ (x : ClaimStage). takes_at x word) is) (ap (claim_accepts_at setting.sizes setting.last claim word) is))) (fills t low.0)
-        of (claims.Take q t next) is = by (word == head_word q t) refl where
-          turns_by : (d : Bool) → (word == head_word q t) ≡ d → turn ≡ (if d then claim_goes claim (claims.StoreUsed q t) else claim_goes claim claims.ReadHead)
+            subst Outcome (sym (later_by false (claim_ends claim (ends.Claimed t)) (ap (λ (x : ClaimStage). takes_at setting.sizes.tops x word) is) (ap (claim_accepts_at setting.sizes setting.last claim word) is))) (fills t low.0)
+        of (claims.Take q t next) is = by (word == head_word setting.sizes.tops q t) refl where
+          turns_by : (d : Bool) → (word == head_word setting.sizes.tops q t) ≡ d → turn ≡ (if d then claim_goes claim (claims.StoreUsed q t) else claim_goes claim claims.ReadHead)
           turns_by d same = ap (claim_accepts_at setting.sizes setting.last claim word) is ∙ ap (λ (x : Bool). if x then claim_goes claim (claims.StoreUsed q t) else claim_goes claim claims.ReadHead) same
 
-          by : (d : Bool) → (word == head_word q t) ≡ d → Outcome later
+          by : (d : Bool) → (word == head_word setting.sizes.tops q t) ≡ d → Outcome later
           by false lost = other (claims.Take q t next) is lost (λ z. z)
-          by true took = subst Outcome (sym (later_by true (claim_goes claim (claims.StoreUsed q t)) (ap (λ (x : ClaimStage). takes_at x word) is ∙ took) (turns_by true took)))
+          by true took = subst Outcome (sym (later_by true (claim_goes claim (claims.StoreUsed q t)) (ap (λ (x : ClaimStage). takes_at setting.sizes.tops x word) is ∙ took) (turns_by true took)))
               (inl (record {
                 busy = refl;
                 given = refl;

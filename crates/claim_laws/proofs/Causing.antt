@@ -48,10 +48,10 @@ module _ (setting : Setting) (steps : List StepMade) (s : StepMade) where
       (last_or_before steps f.before f.later s f.step f.among)
 
   -- a failed look that the last step ends
-  pub full_by_last : EndsInFailedLook more → EndsClaim setting s ends.Full
+  pub full_by_last : EndsInFailedLook setting more → EndsClaim setting s ends.Full
   full_by_last failed =
       let same : s ≡ failed.1 = last_same steps failed.0 s failed.1 failed.2 in
-      let finds : FindsNoTop s = subst FindsNoTop (sym same) failed.3 in
+      let finds : FindsNoTop setting s = subst (FindsNoTop setting) (sym same) failed.3 in
       (finds.claim, finds.claims, empty_ends setting finds.claim s.found finds.claim.stage finds.looks finds.sweeps finds.empty)
 
   -- a call ends with an answer if the last step found neither
@@ -121,7 +121,7 @@ module _ (target : Target) (setting : Setting) (e : Entry) (steps : List StepMad
     turn = claim_accepts setting.sizes setting.last claim word
 
     abbrev counts : Entry
-    counts = claim_counted (claim_takes claim word) (counted e)
+    counts = claim_counted (claim_takes setting.sizes claim word) (counted e)
 
     later_is : after target setting e word ≡ (claim_on setting.reclamation target turn.claim turn.ended counts).entry
     later_is = after_is target setting e word ∙ ap (λ (m : Moved). m.entry) (moved_claims setting.reclamation target setting e word claim there)

@@ -48,7 +48,7 @@ module _ (setting : Setting) (sweep : Sweep) where
     of : (b : Bool) → SweepGives setting (sweeps.MakeReady j q) word (if b then sweep_goes sweep (sweeps.PushHead (kind_of setting.sizes j) j) else sweep_on setting.sizes sweep j).ended
     of true = tt
     of false = on_gives (sweeps.MakeReady j q) word j
-  sweep_gives word (sweeps.PushTop k j q t) = of (word == head_word q t) where
+  sweep_gives word (sweeps.PushTop k j q t) = of (word == head_word setting.sizes.tops q t) where
     of : (b : Bool) → SweepGives setting (sweeps.PushTop k j q t) word (if b then sweep_on setting.sizes sweep j else sweep_goes sweep (sweeps.PushHead (kind_of setting.sizes j) j)).ended
     of true = on_gives (sweeps.PushTop k j q t) word j
     of false = tt
@@ -60,30 +60,30 @@ module _ (setting : Setting) (s : StepMade) (claim : Claim) (there : s.entry.rou
   abbrev pub GivesAt : Option ClaimEnd → Type 0
   GivesAt None = Unit {0}
   GivesAt (Some (ends.Claimed j)) = Unit {0}
-  GivesAt (Some ends.Full) = FindsNoTop s
+  GivesAt (Some ends.Full) = FindsNoTop setting s
   GivesAt (Some (ends.PhasesOver p)) = (p ≡ setting.last) × (s.found ≡ p) × (claim_wants claim ≡ Loads Phase)
 
   follows_gives : (scheme : Scheme) (made : ℕ) → GivesAt (sweep_follows scheme made claim).ended
   follows_gives (Announced own) zero = tt
   follows_gives _ _ = tt
 
-  begun_gives : claim.stage ≡ claims.ReadHead → GivesAt (look_begun claim (head_parts s.found)).ended
-  begun_gives is = of ((head_parts s.found).top == 0) refl (claim.sweeps == 2) refl where
-    of : (b : Bool) → ((head_parts s.found).top == 0) ≡ b → (d : Bool) → (claim.sweeps == 2) ≡ d
+  begun_gives : claim.stage ≡ claims.ReadHead → GivesAt (look_begun claim (head_parts setting.sizes.tops s.found)).ended
+  begun_gives is = of ((head_parts setting.sizes.tops s.found).top == 0) refl (claim.sweeps == 2) refl where
+    of : (b : Bool) → ((head_parts setting.sizes.tops s.found).top == 0) ≡ b → (d : Bool) → (claim.sweeps == 2) ≡ d
         → GivesAt (if b then (if d then claim_ends claim ends.Full else sweep_follows claim.sweep.scheme claim.sweeps claim)
-        else claim_goes claim (claims.ReadLink (head_parts s.found).phase (head_parts s.found).top)).ended
+        else claim_goes claim (claims.ReadLink (head_parts setting.sizes.tops s.found).phase (head_parts setting.sizes.tops s.found).top)).ended
     of true none true two = record { claim = claim; claims = there; sweeps = grind (arith, nat_tests); looks = is; empty = grind (arith, nat_tests) }
     of true none false two = follows_gives claim.sweep.scheme claim.sweeps
     of false none d two = tt
 
   swept_gives : (next : Sweep) (end : Option SweepEnd) → claim.stage ≡ claims.Sweeps → SweepGives setting claim.sweep.stage s.found end → GivesAt (sweep_ended claim next end).ended
   swept_gives next (Some (swept.PhasesOver p)) is gives =
-      (gives.0, gives.1, ap (claim_wants_at claim.kind claim.sweep) is ∙ ap (λ (stage : SweepStage). sweep_wants_at claim.sweep.scheme stage claim.sweep.bound) gives.2)
+      (gives.0, gives.1, ap (claim_wants_at claim.sweep.tops claim.kind claim.sweep) is ∙ ap (λ (stage : SweepStage). sweep_wants_at claim.sweep.tops claim.sweep.scheme stage claim.sweep.bound) gives.2)
   swept_gives next _ is gives = tt
 
   stage_gives : (stage : ClaimStage) → claim.stage ≡ stage → GivesAt (claim_accepts_at setting.sizes setting.last claim s.found stage).ended
   stage_gives claims.ReadHead is = begun_gives is
-  stage_gives (claims.Take q t next) is = of (s.found == head_word q t) where
+  stage_gives (claims.Take q t next) is = of (s.found == head_word setting.sizes.tops q t) where
     of : (b : Bool) → GivesAt (if b then claim_goes claim (claims.StoreUsed q t) else claim_goes claim claims.ReadHead).ended
     of true = tt
     of false = tt
@@ -102,7 +102,7 @@ module _ (setting : Setting) (claim : Claim) (word : ℕ) where
   no_phase Warned c s is = cc
   no_phase (Announced own) c s is = cc
 
-  phase_ends : (stage : SweepStage) → sweep_wants_at claim.sweep.scheme stage claim.sweep.bound ≡ Loads Phase → word ≡ setting.last
+  phase_ends : (stage : SweepStage) → sweep_wants_at claim.sweep.tops claim.sweep.scheme stage claim.sweep.bound ≡ Loads Phase → word ≡ setting.last
       → (sweep_accepts_at setting.sizes setting.last claim.sweep word stage).ended ≡ Some (swept.PhasesOver word)
   phase_ends sweeps.ReadPhase is last = let same : (word == setting.last) ≡ true = grind (arith, nat_tests) in
       ap (λ (b : Bool). (if b then sweep_ends claim.sweep (swept.PhasesOver word) else sweep_goes claim.sweep (sweeps.RaisePhase word)).ended) same
@@ -113,16 +113,16 @@ module _ (setting : Setting) (claim : Claim) (word : ℕ) where
   over_ends next end is = rw is refl
 
   -- a sweep's load that finds the last phase ends the claim
-  pub phases_end : (stage : ClaimStage) → claim_wants_at claim.kind claim.sweep stage ≡ Loads Phase → word ≡ setting.last
+  pub phases_end : (stage : ClaimStage) → claim_wants_at claim.sweep.tops claim.kind claim.sweep stage ≡ Loads Phase → word ≡ setting.last
       → (claim_accepts_at setting.sizes setting.last claim word stage).ended ≡ Some (ends.PhasesOver word)
   phases_end claims.Sweeps is last = let turn = sweep_accepts setting.sizes setting.last claim.sweep word in over_ends turn.sweep turn.ended (phase_ends claim.sweep.stage is last)
   phases_end _ is last = absurd cc
 
   -- a third look that finds no slot on top ends it too
-  pub empty_ends : (stage : ClaimStage) → stage ≡ claims.ReadHead → claim.sweeps ≡ 2 → (head_parts word).top ≡ 0 → (claim_accepts_at setting.sizes setting.last claim word stage).ended ≡ Some ends.Full
+  pub empty_ends : (stage : ClaimStage) → stage ≡ claims.ReadHead → claim.sweeps ≡ 2 → (head_parts setting.sizes.tops word).top ≡ 0 → (claim_accepts_at setting.sizes setting.last claim word stage).ended ≡ Some ends.Full
   empty_ends stage is two none =
-      let here : ((head_parts word).top == 0) ≡ true = grind (arith, nat_tests) in
+      let here : ((head_parts setting.sizes.tops word).top == 0) ≡ true = grind (arith, nat_tests) in
       let second : (claim.sweeps == 2) ≡ true = grind (arith, nat_tests) in
       ap (λ (x : ClaimStage). (claim_accepts_at setting.sizes setting.last claim word x).ended) is
-      ∙ (ap (λ (b : Bool). (if b then look_ended claim else claim_goes claim (claims.ReadLink (head_parts word).phase (head_parts word).top)).ended) here
+      ∙ (ap (λ (b : Bool). (if b then look_ended claim else claim_goes claim (claims.ReadLink (head_parts setting.sizes.tops word).phase (head_parts setting.sizes.tops word).top)).ended) here
       ∙ ap (λ (b : Bool). (if b then claim_ends claim ends.Full else sweep_follows claim.sweep.scheme claim.sweeps claim).ended) second)

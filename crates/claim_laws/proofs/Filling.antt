@@ -1,5 +1,5 @@
--- From the start on: if a reply says that the pool is full, each slot holds an initial node or was claimed.
-use Rattle.std.proofs.Common.{◌≡◌, ◌≢◌, ◌⊎◌, inl, inr, ℕ, zero, suc, ◌+◌, ◌-◌, ◌≤◌, ◌<◌, Bool, true, false, List, [], ◌∷◌, length, map, replicate, Option, Some, None, refl, sym, ◌∙◌, ap, subst, arith, if◌then◌else◌}
+-- From the start on: which slots were claimed. If each slot of a kind holds an initial node or was claimed, nodes and claims are at least its slots.
+use Rattle.std.proofs.Common.{◌≡◌, ◌≢◌, inl, inr, ℕ, zero, suc, ◌+◌, ◌-◌, ◌≤◌, ◌<◌, Bool, true, false, List, [], ◌∷◌, length, map, replicate, Option, Some, None, refl, sym, ◌∙◌, ap, subst, arith, if◌then◌else◌}
 use Rattle.std.specs.Prelude.{slice_get, slice_index, nat_lt, option_map}
 use Rattle.std.proofs.lemmas.Bool.Decides.{nat_tests}
 use Rattle.std.proofs.lemmas.List.{length-map}
@@ -10,7 +10,6 @@ use Rattle.norm_lang.specs.Limits.{are_starts, owners_of}
 use Rattle.target_code.specs.declared.target.Target.{Target}
 use Rattle.target_code.specs.TargetLimits.{IsTargetWithinLimits}
 use Rattle.norm_lang.specs.declared.text.Text.{Text}
-use Rattle.norm_lang.specs.declared.reply.SourceReply.TheVariants as replies
 use Rattle.target_laws.specs.target_runs.Runnable.{MayBeWalked}
 use Rattle.target_laws.proofs.target_runs.Limited.{parts}
 use Rattle.target_laws.proofs.OneKind.{roots_are}
@@ -25,7 +24,6 @@ use Rattle.oa_words.specs.Memories.{seen}
 use Rattle.guard_words.specs.Guards.{guard_at, no_guards, has_slot}
 use Rattle.chain_laws.specs.claim_order.Frontier.{IsOrdered, AreOrdered, Fits as StandingFits}
 use Rattle.chain_laws.proofs.claim_order.Frontier.{start_open}
-use Rattle.caller_parts.specs.declared.call.Replied.{Replied}
 use Rattle.caller_parts.specs.Settings.{Setting, Fits, IsSetting}
 use Rattle.caller_parts.specs.KindCounts.{node_counts}
 use Rattle.caller_parts.specs.Operands.{cradle_count}
@@ -34,7 +32,6 @@ use Rattle.caller_steps.specs.Lawful.{held_at}
 use Rattle.core_runs.specs.Machine.{CoreState, Reachable, core_start, beginning_of, node_home, node_words}
 use Rattle.core_runs.proofs.Reaching.{induct_reached}
 use Rattle.core_runs.proofs.Starting.{start_is_seen}
-use Rattle.core_runs.specs.caller_laws.Laws.{ForRuns}
 use Rattle.core_runs.proofs.caller_laws.Methods.{setting_sane}
 use Rattle.core_runs.proofs.caller_laws.Together.{methods}
 use Rattle.core_runs.specs.core_sound.Standing.{standing_of}
@@ -42,12 +39,12 @@ use Rattle.core_runs.proofs.core_sound.Grouped.{NodesStand, nodes_stand, nodes_t
 use Rattle.core_runs.proofs.core_sound.StartSound.{named, suits, idle_at}
 use Rattle.core_runs.proofs.core_sound.Reached.{states_are_sound}
 use Rattle.claim_laws.specs.Untouched.{nodes_in, HeldNone, ValueAvoids, WordAvoids, EntryAvoids, IsUntouched}
-use Rattle.claim_laws.specs.Full.{claims_in, FillAKind, FullTakesClaims}
 use Rattle.claim_laws.proofs.FirstValues.{home_is_other, fields_avoid, roots_avoid}
 use Rattle.claim_laws.proofs.Naming.{null, zero_avoids, first_avoid}
 use Rattle.claim_laws.proofs.Counting.{covers}
 use Rattle.claim_laws.proofs.Touching.{IsTouched, AllTouched, held_some}
-use Rattle.claim_laws.proofs.Pooling.{NoneFull, KindTouched, CallerPool, Pool, IsPooled, event_pool}
+use Rattle.claim_laws.proofs.Onward.{IsBefore}
+use Rattle.claim_laws.proofs.Pooling.{Pool, IsPooled, event_pool}
 
 -- ---- the start
 
@@ -70,7 +67,7 @@ module _ {target : Target} {setting : Setting} (within : IsTargetWithinLimits ta
   nodes_same k = ap (λ (counts : List ℕ). slice_index counts k) (sym fits.nodes)
 
   few_kinds : length target.kinds ≤ 4
-  few_kinds = let few = own.sizes.8.few in let same = fits.kinds in omega (arith, few, same)
+  few_kinds = let few = own.sizes.kinds.few in let same = fits.kinds in omega (arith, few, same)
 
   stand : NodesStand target
   stand = nodes_stand target few_kinds (parts target within).nodes
@@ -118,7 +115,7 @@ module _ {target : Target} {setting : Setting} (within : IsTargetWithinLimits ta
       place = suc i - first_of setting.sizes t
 
       known : t < length target.kinds
-      known = let lt = kind_small setting.sizes (suc i) own.sizes.8 in let same = fits.kinds in omega (arith, lt, same)
+      known = let lt = kind_small setting.sizes (suc i) own.sizes.kinds in let same = fits.kinds in omega (arith, lt, same)
 
       Avoids : Option (List ℕ) → Type 0
       Avoids o = ValueAvoids j (held_at target t g) (field_word o g)
@@ -163,8 +160,8 @@ module _ {target : Target} {setting : Setting} (within : IsTargetWithinLimits ta
 
   -- the words at the start, in which no slot was claimed
   start_ordered : AreOrdered setting.sizes (nodes_in setting) setting.first (seen setting.sizes (core_start target setting).words) ready_from
-  start_ordered k lt = subst (λ (n : ℕ). IsOrdered (range_of setting.sizes k) k n setting.first (seen setting.sizes (core_start target setting).words) (first_ready (range_of setting.sizes k) n)) (nodes_same k)
-      ((start_open setting.sizes (beginning_of target setting) (seen setting.sizes (core_start target setting).words) own.sizes.8 own.sizes.3 (suits within own fits).nodes
+  start_ordered k lt = subst (λ (n : ℕ). IsOrdered setting.sizes.tops (range_of setting.sizes k) k n setting.first (seen setting.sizes (core_start target setting).words) (first_ready (range_of setting.sizes k) n)) (nodes_same k)
+      ((start_open setting.sizes (beginning_of target setting) (seen setting.sizes (core_start target setting).words) own.sizes.kinds own.sizes.tops (suits within own fits).nodes
       ((start_is_seen target setting).memory (suits within own fits))).words k lt)
 
   start_pool : Pool target setting (core_start target setting) [] ready_from
@@ -175,8 +172,7 @@ module _ {target : Target} {setting : Setting} (within : IsTargetWithinLimits ta
     words = start_ordered;
     fits = λ c e is. (let there = idle_at 0 setting.sizes.callers c e is in
         subst (λ (x : Entry). StandingFits setting.sizes (seen setting.sizes (core_start target setting).words) ready_from (standing_of x.routine)) (sym there.1) tt);
-    callers = λ c e is. (let there = idle_at 0 setting.sizes.callers c e is in
-        subst (CallerPool setting []) (sym there.1) (record { before = tt; full = inl (λ i r got full. let z : None ≡ Some r = got in cc) }));
+    before = λ c e is. (let there = idle_at 0 setting.sizes.callers c e is in subst (λ (x : Entry). IsBefore x.routine) (sym there.1) tt);
     count = omega arith;
   }
 
@@ -187,7 +183,7 @@ reached_pool target text setting runs own fits state reached = induct_reached ta
     (λ now later event was pool goes. event_pool target setting (methods target text runs) (setting_sane setting own) fits now later event (states_are_sound target text setting now runs own fits was) pool goes) state reached
 
 -- if each slot of a kind held an initial node or was claimed, these nodes and the claims are at least its slots
-fills : (setting : Setting) (slots : List ℕ) (k : ℕ) → AreKinds setting.sizes → k < length setting.sizes.kinds → AllTouched setting k slots → slots_of setting.sizes k ≤ nodes_in setting k + length slots
+pub fills : (setting : Setting) (slots : List ℕ) (k : ℕ) → AreKinds setting.sizes → k < length setting.sizes.kinds → AllTouched setting k slots → slots_of setting.sizes k ≤ nodes_in setting k + length slots
 fills setting slots k are lt touched = let cover = covers (slots_of setting.sizes k - nodes_in setting k) base slots claimed in omega (arith, cover) where
   base : ℕ
   base = sum_before setting.sizes.kinds k + nodes_in setting k
@@ -203,19 +199,3 @@ fills setting slots k are lt touched = let cover = covers (slots_of setting.size
         = subst (λ (a : ℕ). i < first_ready (range_of setting.sizes a) (nodes_in setting a)) (in_range_is_of_kind setting.sizes k i lt within) node in
         absurd (omega (arith, low, ready))
     by (inr has) = has
-
--- then there is a kind whose initial nodes, with the claims of all callers, are at least its slots
-pub full_takes : ForRuns FullTakesClaims
-full_takes target text setting runs own fits = record { each = λ state c i e replied reached there got full. of state (reached_pool target text setting runs own fits state reached) c i e replied there got full } where
-  of : (state : CoreState) (pooled : IsPooled target setting state) (c i : ℕ) (e : Entry) (replied : Replied) → slice_get state.entries c ≡ Some e → slice_get e.replies i ≡ Some replied → replied.reply ≡ replies.Full
-      → FillAKind setting (claims_in state.entries)
-  of state pooled c i e replied there got full = by (pooled.pool.callers c e there).full where
-    by : NoneFull e.replies ⊎ KindTouched setting pooled.slots → FillAKind setting (claims_in state.entries)
-    by (inl none) = absurd (none i replied got full)
-    by (inr touched) =
-        let k : ℕ = touched.0 in
-        let enough = fills setting pooled.slots k own.sizes.8 touched.1 touched.2 in
-        let count = pooled.pool.count in
-        let few : setting.sizes.slots ≤ 4096 = own.sizes.3 in
-        let some : slots_of setting.sizes k ≤ setting.sizes.slots = (let part = part_within setting.sizes.kinds k in let whole = own.sizes.8.whole in omega (arith, part, whole)) in
-        (k, touched.1, omega (arith, enough, count, few, some))

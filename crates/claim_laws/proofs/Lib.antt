@@ -14,5 +14,6 @@ pub mod Tallying
 pub mod Stepping
 pub mod Running
 pub mod Onward
+pub mod Sought
 pub mod Calling
 pub mod Taking

@@ -78,14 +78,14 @@ abbrev pub LeavesOther : Target → Sizes → ℕ → Option WordAccess → Type
 LeavesOther target n j None = Unit {0}
 LeavesOther target n j (Some a) = (found : ℕ) → WordAvoids target n j (word_of a) found → WordAvoids target n j (word_of a) (word_after a found)
 
--- the step's exchange doesn't take the slot
-abbrev pub TakesOther : ℕ → ClaimStage → ℕ → Type 0
-TakesOther j (claims.Take q t next) word = (word == head_word q t) ≡ true → t ≢ j
-TakesOther j _ word = Unit {0}
+-- the step's exchange doesn't take the slot, in a row with so many tops
+abbrev pub TakesOther : ℕ → ℕ → ClaimStage → ℕ → Type 0
+TakesOther tops j (claims.Take q t next) word = (word == head_word tops q t) ≡ true → t ≢ j
+TakesOther tops j _ word = Unit {0}
 
-abbrev pub ClaimsOther : ℕ → ℕ → Routine → Type 0
-ClaimsOther j word (Claims claim) = TakesOther j claim.stage word
-ClaimsOther j word _ = Unit {0}
+abbrev pub ClaimsOther : ℕ → ℕ → ℕ → Routine → Type 0
+ClaimsOther tops j word (Claims claim) = TakesOther tops j claim.stage word
+ClaimsOther tops j word _ = Unit {0}
 
 at_least : (a b : ℕ) → nat_le a b ≡ true → a ≤ b
 at_least a b e = grind (arith, nat_tests)
@@ -176,7 +176,7 @@ module _ (target : Target) (setting : Setting) (sane : Methods target) (j : ℕ)
   status_others : (sweep : Sweep) (k : ℕ) (o : Option StatusParts) → Others sweep.gathered → Others (status_read setting.sizes sweep k o).sweep.gathered
   status_others sweep k o all = from_status (λ turn. Others turn.sweep.gathered) setting.sizes sweep k o (on_others sweep k all) (λ p is below away. all)
 
-  sweep_others : (sweep : Sweep) (word : ℕ) (stage : SweepStage) → Others sweep.gathered → FoundAvoids target setting.sizes j (sweep_wants_at sweep.scheme stage sweep.bound) word
+  sweep_others : (sweep : Sweep) (word : ℕ) (stage : SweepStage) → Others sweep.gathered → FoundAvoids target setting.sizes j (sweep_wants_at sweep.tops sweep.scheme stage sweep.bound) word
       → Others (sweep_accepts_at setting.sizes setting.last sweep word stage).sweep.gathered
   sweep_others sweep word sweeps.ReadPhase all told = of (word == setting.last) where
     of : (b : Bool) → Others (if b then sweep_ends sweep (swept.PhasesOver word) else sweep_goes sweep (sweeps.RaisePhase word)).sweep.gathered
@@ -188,7 +188,7 @@ module _ (target : Target) (setting : Setting) (sane : Methods target) (j : ℕ)
     of : (b : Bool) → Others (if b then sweep_goes sweep (sweeps.PushHead (kind_of setting.sizes k) k) else sweep_on setting.sizes sweep k).sweep.gathered
     of true = all
     of false = on_others sweep k all
-  sweep_others sweep word (sweeps.PushTop kind k q t) all told = of (word == head_word q t) where
+  sweep_others sweep word (sweeps.PushTop kind k q t) all told = of (word == head_word setting.sizes.tops q t) where
     of : (b : Bool) → Others (if b then sweep_on setting.sizes sweep k else sweep_goes sweep (sweeps.PushHead (kind_of setting.sizes k) k)).sweep.gathered
     of true = on_others sweep k all
     of false = all
@@ -217,12 +217,12 @@ module _ (target : Target) (setting : Setting) (sane : Methods target) (j : ℕ)
   swept_goes claim next (Some swept.Swept) is all = (all, tt)
   swept_goes claim next (Some (swept.PhasesOver p)) is all = tt
 
-  claim_goes_on : (claim : Claim) (word : ℕ) (stage : ClaimStage) → claim.stage ≡ stage → Others claim.sweep.gathered → StageAvoids j stage → FoundAvoids target setting.sizes j (claim_wants_at claim.kind claim.sweep stage) word
-      → TakesOther j stage word → Goes (claim_accepts_at setting.sizes setting.last claim word stage)
-  claim_goes_on claim word claims.ReadHead is all taken told other = begun_goes claim (head_parts word) all
+  claim_goes_on : (claim : Claim) (word : ℕ) (stage : ClaimStage) → claim.stage ≡ stage → Others claim.sweep.gathered → StageAvoids j stage → FoundAvoids target setting.sizes j (claim_wants_at claim.sweep.tops claim.kind claim.sweep stage) word
+      → TakesOther setting.sizes.tops j stage word → Goes (claim_accepts_at setting.sizes setting.last claim word stage)
+  claim_goes_on claim word claims.ReadHead is all taken told other = begun_goes claim (head_parts setting.sizes.tops word) all
   claim_goes_on claim word (claims.ReadLink q t) is all taken told other = (all, tt)
-  claim_goes_on claim word (claims.Take q t next) is all taken told other = of (word == head_word q t) refl where
-    of : (b : Bool) → (word == head_word q t) ≡ b → Goes (if b then claim_goes claim (claims.StoreUsed q t) else claim_goes claim claims.ReadHead)
+  claim_goes_on claim word (claims.Take q t next) is all taken told other = of (word == head_word setting.sizes.tops q t) refl where
+    of : (b : Bool) → (word == head_word setting.sizes.tops q t) ≡ b → Goes (if b then claim_goes claim (claims.StoreUsed q t) else claim_goes claim claims.ReadHead)
     of true same = (all, other same)
     of false same = (all, tt)
   claim_goes_on claim word (claims.StoreUsed q t) is all taken told other = taken
@@ -233,12 +233,12 @@ module _ (target : Target) (setting : Setting) (sane : Methods target) (j : ℕ)
   -- ---- each step
 
   found_step : (e : Entry) (word : ℕ) (routine : Routine) → Belongs target setting e → RunsAt target e routine → RunsWithKinds target setting e routine → RegistersAvoid j e.hand.registers → RoutineAvoids j routine
-      → ToldAvoids target setting.sizes j (wanted target e routine) word → ClaimsOther j word routine → StepAvoids target setting j e word routine
+      → ToldAvoids target setting.sizes j (wanted target e routine) word → ClaimsOther setting.sizes.tops j word routine → StepAvoids target setting j e word routine
   found_step e word At b reaches kinds s a told other = instr_found e (instr_in target e) word (record { reached = reaches; names = b.hand.registers; kinds = kinds.now }) refl s told
   found_step e word (Claims claim) b reaches kinds s a told other = claim_goes_on claim word claim.stage refl a.0 a.1 told other
   found_step e word _ b reaches kinds s a told other = tt
 
-  pub step_found : (e : Entry) (word : ℕ) → Belongs target setting e → EntryAvoids j e → ToldAvoids target setting.sizes j (wants target e) word → ClaimsOther j word e.routine → StepAvoids target setting j e word e.routine
+  pub step_found : (e : Entry) (word : ℕ) → Belongs target setting e → EntryAvoids j e → ToldAvoids target setting.sizes j (wants target e) word → ClaimsOther setting.sizes.tops j word e.routine → StepAvoids target setting j e word e.routine
   unfolding wants
   step_found e word b a told other = found_step e word e.routine b b.reaches b.kinds a.registers a.routine told other
 
@@ -333,14 +333,14 @@ module _ (target : Target) (setting : Setting) (sane : Methods target) (j : ℕ)
   warn_leaves Warned c s = λ found was. tt
   warn_leaves (Announced own) c s = λ found was. tt
 
-  sweep_leaves : (scheme : Scheme) (bound : ℕ) (stage : SweepStage) → LeavesOther target setting.sizes j (Some (sweep_wants_at scheme stage bound))
-  sweep_leaves scheme bound (sweeps.Warn c) = warn_leaves scheme c bound
-  sweep_leaves scheme bound (sweeps.ReadHazard c r) = λ found was. was
-  sweep_leaves scheme bound _ = λ found was. tt
+  sweep_leaves : (tops : ℕ) (scheme : Scheme) (bound : ℕ) (stage : SweepStage) → LeavesOther target setting.sizes j (Some (sweep_wants_at tops scheme stage bound))
+  sweep_leaves tops scheme bound (sweeps.Warn c) = warn_leaves scheme c bound
+  sweep_leaves tops scheme bound (sweeps.ReadHazard c r) = λ found was. was
+  sweep_leaves tops scheme bound _ = λ found was. tt
 
-  claim_leaves : (k : ℕ) (sweep : Sweep) (stage : ClaimStage) → LeavesOther target setting.sizes j (Some (claim_wants_at k sweep stage))
-  claim_leaves k sweep claims.Sweeps = sweep_leaves sweep.scheme sweep.bound sweep.stage
-  claim_leaves k sweep _ = λ found was. tt
+  claim_leaves : (tops k : ℕ) (sweep : Sweep) (stage : ClaimStage) → LeavesOther target setting.sizes j (Some (claim_wants_at tops k sweep stage))
+  claim_leaves tops k sweep claims.Sweeps = sweep_leaves tops sweep.scheme sweep.bound sweep.stage
+  claim_leaves tops k sweep _ = λ found was. tt
 
   announcing_leaves : (c : ℕ) (announcing : Announcing) → LeavesOther target setting.sizes j (Some (announcing_wanted c announcing))
   announcing_leaves c (announces.Loads why) = λ found was. tt
@@ -354,7 +354,7 @@ module _ (target : Target) (setting : Setting) (sane : Methods target) (j : ℕ)
   leaves_step e (Retires retirement go) b reaches kinds stands s = retire_leaves retirement.slot retirement.stage
   leaves_step e Restarts b reaches kinds stands s = clear_leaves e.number (restart_next target e)
   leaves_step e (Clears next) b reaches kinds stands s = clear_leaves e.number (clear_next target next e)
-  leaves_step e (Claims claim) b reaches kinds stands s = claim_leaves claim.kind claim.sweep claim.stage
+  leaves_step e (Claims claim) b reaches kinds stands s = claim_leaves claim.sweep.tops claim.kind claim.sweep claim.stage
   leaves_step e (Zeroes k field) b reaches kinds stands s = λ found was. field_emptied (cradle_of e k) field
   leaves_step e (Announces announcing) b reaches kinds stands s = announcing_leaves e.number announcing
 

@@ -1,11 +1,9 @@
 -- Every event keeps that slots which were never claimed are ready and named by the chain alone, that claims take them in ascending order,
 -- and that claims are counted.
-use Rattle.std.proofs.Common.{◌≡◌, ◌≢◌, ◌⊎◌, inl, inr, ⊎_elim, ℕ, zero, suc, ◌+◌, ◌≤◌, ◌<◌, ◌==◌, ◌&&◌, ◌||◌, Bool, true, false, List, [], ◌∷◌, ◌++◌, length, set, Option, Some, None, refl, sym, ◌∙◌, ap, subst, arith, get_or-set_other, get_or-set_same, if◌then◌else◌}
+use Rattle.std.proofs.Common.{◌≡◌, ◌≢◌, ◌⊎◌, inl, inr, ⊎_elim, ℕ, zero, suc, ◌+◌, ◌≤◌, ◌<◌, ◌==◌, ◌&&◌, ◌||◌, Bool, true, false, List, [], ◌∷◌, length, set, Option, Some, None, refl, sym, ◌∙◌, ap, subst, arith, get_or-set_other, get_or-set_same, if◌then◌else◌}
 use Rattle.std.specs.Prelude.{slice_get, slice_set, slice_index}
 use Rattle.std.proofs.lemmas.Bool.{cases_lt}
 use Rattle.std.proofs.lemmas.Bool.Decides.{nat_tests, eqb_tells}
-use Rattle.norm_lang.specs.declared.reply.SourceReply.{SourceReply}
-use Rattle.norm_lang.specs.declared.reply.SourceReply.TheVariants as replies
 use Rattle.target_code.specs.declared.target.Target.{Target}
 use Rattle.oa_words.specs.declared.packed.Kind.TheVariants as kinds
 use Rattle.oa_words.specs.SlotKinds.{range_of, kind_of, range_at}
@@ -28,16 +26,13 @@ use Rattle.chain_laws.specs.Memories.{after_access, put}
 use Rattle.chain_laws.proofs.Lists.{each_put, put_same}
 use Rattle.chain_laws.specs.claim_order.Frontier.{ClaimFits, Fits, IsOrdered, AreOrdered, frontier_at}
 use Rattle.chain_laws.proofs.claim_order.Ranges.{near_below, near_inside, near_none}
-use Rattle.chain_laws.proofs.claim_order.Frontier.{ClaimOn, AllMove, Kept, all_stay, claim_open, fits_later, ordered_same, retire_open}
+use Rattle.chain_laws.proofs.claim_order.Frontier.{ClaimOn, AllMove, Kept, all_stay, claim_opens, fits_later, ordered_same, retire_open}
 use Rattle.caller_parts.specs.declared.call.Call.{Call}
-use Rattle.caller_parts.specs.declared.call.Replied.{Replied}
-use Rattle.caller_parts.specs.declared.call.Running.{Running}
 use Rattle.caller_parts.specs.declared.routine.AfterRetire.{AfterRetire}
 use Rattle.caller_parts.specs.declared.setting.Reclamation.{Reclamation}
 use Rattle.caller_parts.specs.declared.setting.Reclamation.TheVariants.{Optimistic, Epochs}
 use Rattle.caller_parts.specs.declared.routine.Routine.{Routine}
 use Rattle.caller_parts.specs.declared.routine.Routine.TheVariants.{Idle, LoadSeen, At, InList, Retires, Restarts, Clears, Claims, Zeroes, Announces}
-use Rattle.caller_parts.specs.Pairing.{replied_by}
 use Rattle.caller_parts.specs.Settings.{Setting, Fits as FitsTarget}
 use Rattle.caller_steps.specs.Entries.{Entry, is_idle, one_more}
 use Rattle.caller_parts.specs.Calls.{is_call}
@@ -47,10 +42,8 @@ use Rattle.caller_steps.specs.After.{after, taken, claim_counted, claim_on, coun
 use Rattle.caller_steps.specs.Lawful.{AsksSafely, IsSafe, MayBeTold}
 use Rattle.caller_steps.specs.Belongs.{Belongs, Stands}
 use Rattle.core_runs.specs.Machine.{CoreState, CoreEvent, Takes, Steps, core_event, event_by, found_by, made, stepped, word_at}
-use Rattle.core_runs.specs.Advances.{RunsOn, Ends}
 use Rattle.core_runs.proofs.Reaching.{some_is}
 use Rattle.core_runs.proofs.Seeing.{found_is, seen_set}
-use Rattle.core_runs.proofs.Turning.{after_turns}
 use Rattle.core_runs.proofs.Keeping.{idle_wants}
 use Rattle.core_runs.proofs.caller_laws.Methods.{Methods, SettingSane, news_fit}
 use Rattle.core_runs.proofs.caller_laws.Equations.{after_is, moved_claims, wants_claims, wants_retires}
@@ -62,15 +55,12 @@ use Rattle.core_runs.specs.core_sound.Standing.{standing_of}
 use Rattle.core_runs.proofs.core_sound.Machine.{found_told, set_got}
 use Rattle.core_runs.proofs.core_sound.Stamping.{elsewhere_wants, leaves_same}
 use Rattle.claim_laws.specs.Untouched.{nodes_in, HeldNone, WordAvoids, EntryAvoids, IsUntouched, RoutineAvoids}
-use Rattle.claim_laws.specs.Causes.{FindsNoTop}
-use Rattle.claim_laws.specs.CallSteps.{StepMade}
-use Rattle.claim_laws.proofs.Onward.{IsAnswer, IsBefore, IsNoClaim, StandsAfter, after_answers, first_before, slot_gains}
+use Rattle.claim_laws.proofs.Onward.{IsBefore, IsNoClaim, StandsAfter, after_answers, first_before, slot_gains}
 use Rattle.claim_laws.proofs.Avoiding.{after_avoids}
 use Rattle.claim_laws.proofs.Naming.{first_avoid}
-use Rattle.claim_laws.proofs.Claiming.{GivesAt, claim_gives}
 use Rattle.claim_laws.proofs.Meeting.{ClaimsOther, TakesOther, ToldAvoids, LeavesOther, step_found, step_leaves}
 use Rattle.claim_laws.proofs.Counting.{IsCounted, counts_same, counts_more}
-use Rattle.claim_laws.proofs.Touching.{LeavesReady, step_leaves_ready, IsUntaken, AllTouched, held_some, touched_more, untaken_before}
+use Rattle.claim_laws.proofs.Touching.{LeavesReady, step_leaves_ready, IsUntaken, AllTouched, held_some, untaken_before}
 
 -- ---- one word changes
 
@@ -90,21 +80,6 @@ stored setting words v w x count row there = ⊎_elim
 
 -- ---- what holds of all callers together
 
-abbrev pub NoneFull : List Replied → Type 0
-NoneFull given = (i : ℕ) (r : Replied) → slice_get given i ≡ Some r → r.reply ≡ replies.Full → ⊥
-
--- all slots of a kind held an initial node or were claimed
-abbrev pub KindTouched : Setting → List ℕ → Type 0
-KindTouched setting slots = (k : ℕ) × (k < length setting.sizes.kinds) × AllTouched setting k slots
-
-abbrev pub FullOnly : Setting → List ℕ → List Replied → Type 0
-FullOnly setting slots given = NoneFull given ⊎ KindTouched setting slots
-
--- of one caller
-pub record CallerPool (setting : Setting) (slots : List ℕ) (e : Entry) : Type 0 where
-  pub before : IsBefore e.routine
-  pub full : FullOnly setting slots e.replies
-
 -- the slots that were claimed are among these, and as many claims are counted. They are those that held no initial node and stand before the
 -- frontier of their kind
 pub record Pool (target : Target) (setting : Setting) (state : CoreState) (slots : List ℕ) (v : ℕ → ℕ) : Type 0 where
@@ -113,7 +88,7 @@ pub record Pool (target : Target) (setting : Setting) (state : CoreState) (slots
   pub ahead : (j : ℕ) → v (kind_of setting.sizes j) ≤ j → has_slot slots j ≡ false
   pub words : AreOrdered setting.sizes (nodes_in setting) setting.first (seen setting.sizes state.words) v
   pub fits : (c : ℕ) (e : Entry) → slice_get state.entries c ≡ Some e → Fits setting.sizes (seen setting.sizes state.words) v (standing_of e.routine)
-  pub callers : (c : ℕ) (e : Entry) → slice_get state.entries c ≡ Some e → CallerPool setting slots e
+  pub before : (c : ℕ) (e : Entry) → slice_get state.entries c ≡ Some e → IsBefore e.routine
   pub count : IsCounted (length slots) state.entries
 
 pub record IsPooled (target : Target) (setting : Setting) (state : CoreState) : Type 0 where
@@ -121,79 +96,50 @@ pub record IsPooled (target : Target) (setting : Setting) (state : CoreState) : 
   pub frontier : ℕ → ℕ
   pub pool : Pool target setting state slots frontier
 
-full_more : (setting : Setting) (slots : List ℕ) (k : ℕ) (given : List Replied) → FullOnly setting slots given → FullOnly setting (k ∷ slots) given
-full_more setting slots k given (inl none) = inl none
-full_more setting slots k given (inr all) = inr (all.0, all.1, (λ i within. touched_more setting slots k i (all.2 i within)))
-
-caller_more : (setting : Setting) (slots : List ℕ) (k : ℕ) (e : Entry) → CallerPool setting slots e → CallerPool setting (k ∷ slots) e
-caller_more setting slots k e p = record { before = p.before; full = full_more setting slots k e.replies p.full }
-
 -- if no slot of a kind is on top, each was claimed
 all_touched : (setting : Setting) (slots : List ℕ) (m : Word → ℕ) (v : ℕ → ℕ) (k : ℕ) → k < length setting.sizes.kinds → AreOrdered setting.sizes (nodes_in setting) setting.first m v
-    → ((j : ℕ) → HeldNone setting j → j < v (kind_of setting.sizes j) → has_slot slots j ≡ true) → top m k ≡ 0 → AllTouched setting k slots
+    → ((j : ℕ) → HeldNone setting j → j < v (kind_of setting.sizes j) → has_slot slots j ≡ true) → top setting.sizes.tops m k ≡ 0 → AllTouched setting k slots
 all_touched setting slots m v k lt o past none i within = ⊎_elim (λ (node : i < ready). inl node) (λ (other : ready ≤ i). inr (past i other below)) (cases_lt i ready) where
   ready : ℕ
   ready = first_ready (range_at setting.sizes i) (nodes_in setting (kind_of setting.sizes i))
 
-  words : IsOrdered (range_of setting.sizes k) k (nodes_in setting k) setting.first m (v k)
+  words : IsOrdered setting.sizes.tops (range_of setting.sizes k) k (nodes_in setting k) setting.first m (v k)
   words = o k lt
 
   below : i < v (kind_of setting.sizes i)
   below =
-      let over = near_none (range_of setting.sizes k) (v k) (top m k) words.above_null none words.top_good.0 in
+      let over = near_none (range_of setting.sizes k) (v k) (top setting.sizes.tops m k) words.above_null none words.top_good.0 in
       subst (λ (a : ℕ). i < v a) (sym (in_range_is_of_kind setting.sizes k i lt within)) (let high = within.1 in omega (arith, high, over))
-
--- one more reply
-pub got_last : (given : List Replied) (i : ℕ) (r new : Replied) → slice_get (given ++ new ∷ []) i ≡ Some r → (slice_get given i ≡ Some r) ⊎ (new ≡ r)
-got_last [] zero r new is = inr cc
-got_last [] (suc i) r new is = absurd (let z : None ≡ Some r = is in cc)
-got_last (x ∷ given) zero r new is = inl is
-got_last (x ∷ given) (suc i) r new is = got_last given i r new is
-
-not_full : (reply : SourceReply) → IsAnswer reply → reply ≡ replies.Full → ⊥
-not_full (replies.Number n) is e = cc
-not_full replies.Nothing is e = cc
-not_full replies.Full is e = is
-not_full (replies.Phases p) is e = is
-
-add_reply : (setting : Setting) (slots : List ℕ) (given : List Replied) (reply : SourceReply) (run : Running) → (reply ≡ replies.Full → KindTouched setting slots) → (reply ≡ replies.Full → ⊥) ⊎ (reply ≡ replies.Full)
-    → FullOnly setting slots given → FullOnly setting slots (given ++ replied_by reply run ∷ [])
-add_reply setting slots given reply run gives which (inr all) = inr all
-add_reply setting slots given reply run gives (inr is) (inl none) = inr (gives is)
-add_reply setting slots given reply run gives (inl other) (inl none) = inl (λ i r got full. ⊎_elim
-    (λ (t : slice_get given i ≡ Some r). none i r t full)
-    (λ (t : replied_by reply run ≡ r). other (ap (λ (x : Replied). x.reply) t ∙ full))
-    (got_last given i r (replied_by reply run) got))
 
 -- ---- a caller after its step
 
 -- the step's exchange takes a slot
-abbrev pub takes_in : Routine → ℕ → Bool
-takes_in (Claims claim) word = claim_takes claim word
-takes_in _ word = false
+abbrev pub takes_in : Sizes → Routine → ℕ → Bool
+takes_in sizes (Claims claim) word = claim_takes sizes claim word
+takes_in sizes _ word = false
 
 abbrev pub count_after : Bool → ℕ → ℕ
 count_after takes n = if takes then one_more n else n
 
 module _ (target : Target) (setting : Setting) where
   -- each step counts the slot that it takes
-  pub counts_after : (e : Entry) (word : ℕ) → is_idle e.routine ≡ false → IsBefore e.routine → (after target setting e word).counts.claims ≡ count_after (takes_in e.routine word) e.counts.claims
+  pub counts_after : (e : Entry) (word : ℕ) → is_idle e.routine ≡ false → IsBefore e.routine → (after target setting e word).counts.claims ≡ count_after (takes_in setting.sizes e.routine word) e.counts.claims
   counts_after e word busy before = of e.routine refl where
-    plain : (routine : Routine) → e.routine ≡ routine → IsNoClaim routine → takes_in routine word ≡ false → (after target setting e word).counts.claims ≡ count_after (takes_in e.routine word) e.counts.claims
+    plain : (routine : Routine) → e.routine ≡ routine → IsNoClaim routine → takes_in setting.sizes routine word ≡ false → (after target setting e word).counts.claims ≡ count_after (takes_in setting.sizes e.routine word) e.counts.claims
     plain routine is other none =
-        (after_answers target setting e word before (subst IsNoClaim (sym is) other)).0 ∙ ap (λ (b : Bool). count_after b e.counts.claims) (sym (ap (λ (r : Routine). takes_in r word) is ∙ none))
+        (after_answers target setting e word before (subst IsNoClaim (sym is) other)).0 ∙ ap (λ (b : Bool). count_after b e.counts.claims) (sym (ap (λ (r : Routine). takes_in setting.sizes r word) is ∙ none))
 
     ended : (claim : Claim) (o : Option ClaimEnd) (x : Entry) → (claim_on setting.reclamation target claim o x).entry.counts.claims ≡ x.counts.claims
     ended claim (Some (ends.Claimed k)) x = (slot_gains setting.reclamation target claim.sweeps k (with_routine x At)).claims
     ended claim _ x = refl
 
-    of : (routine : Routine) → e.routine ≡ routine → (after target setting e word).counts.claims ≡ count_after (takes_in e.routine word) e.counts.claims
+    of : (routine : Routine) → e.routine ≡ routine → (after target setting e word).counts.claims ≡ count_after (takes_in setting.sizes e.routine word) e.counts.claims
     of Idle is = absurd (let z : true ≡ false = sym (ap is_idle is) ∙ busy in cc)
     of (Claims claim) is =
         let turn : ClaimTurn = claim_accepts setting.sizes setting.last claim word in
         ap (λ (x : Entry). x.counts.claims) (after_is target setting e word ∙ ap (λ (m : Moved). m.entry) (moved_claims setting.reclamation target setting e word claim is))
-        ∙ (ended turn.claim turn.ended (claim_counted (claim_takes claim word) (counted e))
-        ∙ ap (λ (b : Bool). count_after b e.counts.claims) (sym (ap (λ (r : Routine). takes_in r word) is)))
+        ∙ (ended turn.claim turn.ended (claim_counted (claim_takes setting.sizes claim word) (counted e))
+        ∙ ap (λ (b : Bool). count_after b e.counts.claims) (sym (ap (λ (r : Routine). takes_in setting.sizes r word) is)))
     of (LoadSeen why) is = plain (LoadSeen why) is tt refl
     of At is = plain At is tt refl
     of (InList k) is = plain (InList k) is tt refl
@@ -203,71 +149,37 @@ module _ (target : Target) (setting : Setting) where
     of (Zeroes k field) is = plain (Zeroes k field) is tt refl
     of (Announces announcing) is = plain (Announces announcing) is tt refl
 
-  module _ (slots : List ℕ) (e : Entry) (word : ℕ) (busy : is_idle e.routine ≡ false) (p : CallerPool setting slots e) where
-    abbrev later : Entry
+  -- and one that ends its call does so with an answer
+  pub before_after : (e : Entry) (word : ℕ) → is_idle e.routine ≡ false → IsBefore e.routine → IsBefore (after target setting e word).routine
+  before_after e word busy before = of e.routine refl where
+    later : Entry
     later = after target setting e word
 
-    -- a step that isn't one of a claim
-    plain_step : IsNoClaim e.routine → CallerPool setting slots later
-    plain_step other = by later.routine refl answers.1 where
-      answers : (later.counts.claims ≡ (counted e).counts.claims) × StandsAfter setting.sizes (counted e) later later.routine
-      answers = after_answers target setting e word p.before other
+    plain : (routine : Routine) → e.routine ≡ routine → IsNoClaim routine → IsBefore later.routine
+    plain routine is other = by later.routine refl (after_answers target setting e word before (subst IsNoClaim (sym is) other)).1 where
+      by : (now : Routine) → later.routine ≡ now → StandsAfter setting.sizes (counted e) later now → IsBefore later.routine
+      by (Clears next) same stands = subst IsBefore (sym same) stands
+      by (Announces announcing) same stands = subst IsBefore (sym same) stands
+      by now same stands = subst IsBefore (sym same) tt
 
-      kept : RunsOn (counted e) later ⊎ Ends (counted e) later → is_idle later.routine ≡ false → later.replies ≡ e.replies
-      kept (inl runs) running = runs.1
-      kept (inr stops) running = absurd (let z : true ≡ false = sym stops.1 ∙ running in cc)
+    ended : (next : Claim) (o : Option ClaimEnd) (x : Entry) → IsBefore (claim_on setting.reclamation target next o x).entry.routine
+    ended next (Some (ends.Claimed k)) x = (slot_gains setting.reclamation target next.sweeps k (with_routine x At)).before
+    ended next _ x = tt
 
-      same : (routine : Routine) → later.routine ≡ routine → is_idle routine ≡ false → IsBefore routine → CallerPool setting slots later
-      same routine is running before = record {
-        before = subst IsBefore (sym is) before;
-        full = subst (FullOnly setting slots) (sym (kept (after_turns target setting e word busy) (ap is_idle is ∙ running))) p.full;
-      }
-
-      by : (routine : Routine) → later.routine ≡ routine → StandsAfter setting.sizes (counted e) later routine → CallerPool setting slots later
-      by Idle is stands = record {
-        before = subst IsBefore (sym is) tt;
-        full = subst (FullOnly setting slots) (sym stands.2)
-            (add_reply setting slots e.replies stands.0 (counted e).running (λ full. absurd (not_full stands.0 stands.1 full)) (inl (not_full stands.0 stands.1)) p.full);
-      }
-      by (Claims claim) is stands = same (Claims claim) is refl tt
-      by (Clears next) is stands = same (Clears next) is refl stands
-      by (LoadSeen why) is stands = same (LoadSeen why) is refl tt
-      by At is stands = same At is refl tt
-      by (InList k) is stands = same (InList k) is refl tt
-      by (Retires retirement go) is stands = same (Retires retirement go) is refl tt
-      by Restarts is stands = same Restarts is refl tt
-      by (Zeroes k field) is stands = same (Zeroes k field) is refl tt
-      by (Announces announcing) is stands = same (Announces announcing) is refl stands
-
-    -- one of a claim: if it ends with `Full`, each slot was claimed
-    claim_end : (next : Claim) (o : Option ClaimEnd) (x : Entry) → (o ≡ Some ends.Full → KindTouched setting slots) → FullOnly setting slots x.replies → CallerPool setting slots (claim_on setting.reclamation target next o x).entry
-    claim_end next None x touches full = record { before = tt; full = full }
-    claim_end next (Some (ends.Claimed k)) x touches full =
-        let g = slot_gains setting.reclamation target next.sweeps k (with_routine x At) in
-        record { before = g.before; full = subst (FullOnly setting slots) (sym g.replies) full }
-    claim_end next (Some ends.Full) x touches full = record { before = tt; full = add_reply setting slots x.replies replies.Full x.running (λ is. touches refl) (inr refl) full }
-    claim_end next (Some (ends.PhasesOver q)) x touches full = record { before = tt; full = add_reply setting slots x.replies (replies.Phases q) x.running (λ is. absurd cc) (inl (λ is. cc)) full }
-
-    claim_step : (claim : Claim) → e.routine ≡ Claims claim → ((claim_accepts setting.sizes setting.last claim word).ended ≡ Some ends.Full → KindTouched setting slots) → CallerPool setting slots later
-    claim_step claim is touches =
+    of : (routine : Routine) → e.routine ≡ routine → IsBefore later.routine
+    of Idle is = absurd (let z : true ≡ false = sym (ap is_idle is) ∙ busy in cc)
+    of (Claims claim) is =
         let turn : ClaimTurn = claim_accepts setting.sizes setting.last claim word in
-        subst (CallerPool setting slots) (sym (after_is target setting e word ∙ ap (λ (m : Moved). m.entry) (moved_claims setting.reclamation target setting e word claim is)))
-        (claim_end turn.claim turn.ended (claim_counted (claim_takes claim word) (counted e)) touches p.full)
-
-    -- either
-    pub caller_step : ((claim : Claim) → e.routine ≡ Claims claim → (claim_accepts setting.sizes setting.last claim word).ended ≡ Some ends.Full → KindTouched setting slots) → CallerPool setting slots later
-    caller_step touches = of e.routine refl where
-      of : (routine : Routine) → e.routine ≡ routine → CallerPool setting slots later
-      of Idle is = absurd (let z : true ≡ false = sym (ap is_idle is) ∙ busy in cc)
-      of (Claims claim) is = claim_step claim is (touches claim is)
-      of (LoadSeen why) is = plain_step (subst IsNoClaim (sym is) tt)
-      of At is = plain_step (subst IsNoClaim (sym is) tt)
-      of (InList k) is = plain_step (subst IsNoClaim (sym is) tt)
-      of (Retires retirement go) is = plain_step (subst IsNoClaim (sym is) tt)
-      of Restarts is = plain_step (subst IsNoClaim (sym is) tt)
-      of (Clears next) is = plain_step (subst IsNoClaim (sym is) tt)
-      of (Zeroes k field) is = plain_step (subst IsNoClaim (sym is) tt)
-      of (Announces announcing) is = plain_step (subst IsNoClaim (sym is) tt)
+        subst (λ (x : Entry). IsBefore x.routine) (sym (after_is target setting e word ∙ ap (λ (m : Moved). m.entry) (moved_claims setting.reclamation target setting e word claim is)))
+        (ended turn.claim turn.ended (claim_counted (claim_takes setting.sizes claim word) (counted e)))
+    of (LoadSeen why) is = plain (LoadSeen why) is tt
+    of At is = plain At is tt
+    of (InList k) is = plain (InList k) is tt
+    of (Retires retirement go) is = plain (Retires retirement go) is tt
+    of Restarts is = plain Restarts is tt
+    of (Clears next) is = plain (Clears next) is tt
+    of (Zeroes k field) is = plain (Zeroes k field) is tt
+    of (Announces announcing) is = plain (Announces announcing) is tt
 
 -- ---- the words after a step, and which slots it leaves unclaimed
 
@@ -275,7 +187,7 @@ module _ (target : Target) (setting : Setting) where
 pub record Advances (setting : Setting) (m : Word → ℕ) (slots : List ℕ) (v : ℕ → ℕ) (e : Entry) (a : WordAccess) (slots' : List ℕ) (v' : ℕ → ℕ) : Type 0 where
   pub words : AreOrdered setting.sizes (nodes_in setting) setting.first (after_access m a) v'
   pub moves : AllMove setting.sizes m (after_access m a) v v'
-  pub untaken : (j : ℕ) → IsUntaken setting slots' j → IsUntaken setting slots j × ClaimsOther j (m (word_of a)) e.routine
+  pub untaken : (j : ℕ) → IsUntaken setting slots' j → IsUntaken setting slots j × ClaimsOther setting.sizes.tops j (m (word_of a)) e.routine
   pub past : (j : ℕ) → HeldNone setting j → j < v' (kind_of setting.sizes j) → has_slot slots' j ≡ true
   pub ahead : (j : ℕ) → v' (kind_of setting.sizes j) ≤ j → has_slot slots' j ≡ false
   pub on : (claim : Claim) → e.routine ≡ Claims claim → (let turn = claim_accepts setting.sizes setting.last claim (m (word_of a)) in ClaimOn setting.sizes (after_access m a) v' turn.claim turn.ended)
@@ -283,13 +195,13 @@ pub record Advances (setting : Setting) (m : Word → ℕ) (slots : List ℕ) (v
 -- it takes no slot, or one
 abbrev pub AdvancesBy : Setting → (Word → ℕ) → List ℕ → (ℕ → ℕ) → Entry → WordAccess → Type 0
 AdvancesBy setting m slots v e a =
-    ((takes_in e.routine (m (word_of a)) ≡ false) × Advances setting m slots v e a slots v)
-    ⊎ ((takes_in e.routine (m (word_of a)) ≡ true) × (t : ℕ) × (v' : ℕ → ℕ) × Advances setting m slots v e a (t ∷ slots) v')
+    ((takes_in setting.sizes e.routine (m (word_of a)) ≡ false) × Advances setting m slots v e a slots v)
+    ⊎ ((takes_in setting.sizes e.routine (m (word_of a)) ≡ true) × (t : ℕ) × (v' : ℕ → ℕ) × Advances setting m slots v e a (t ∷ slots) v')
 
 module _ (setting : Setting) (some : SettingSane setting) (m : Word → ℕ) (slots : List ℕ) (v : ℕ → ℕ) (e : Entry) (ordered : AreOrdered setting.sizes (nodes_in setting) setting.first m v)
     (past : (j : ℕ) → HeldNone setting j → j < v (kind_of setting.sizes j) → has_slot slots j ≡ true) (ahead : (j : ℕ) → v (kind_of setting.sizes j) ≤ j → has_slot slots j ≡ false) where
   -- no claim
-  still : (a : WordAccess) → Kept setting.sizes (nodes_in setting) setting.first m (after_access m a) v → ((j : ℕ) → ClaimsOther j (m (word_of a)) e.routine)
+  still : (a : WordAccess) → Kept setting.sizes (nodes_in setting) setting.first m (after_access m a) v → ((j : ℕ) → ClaimsOther setting.sizes.tops j (m (word_of a)) e.routine)
       → ((claim : Claim) → e.routine ≡ Claims claim → (let turn = claim_accepts setting.sizes setting.last claim (m (word_of a)) in ClaimOn setting.sizes (after_access m a) v turn.claim turn.ended))
       → Advances setting m slots v e a slots v
   still a k other on = record { words = k.0; moves = all_stay setting.sizes m (after_access m a) v k.1; untaken = λ j u. (u, other j); past = past; ahead = ahead; on = on }
@@ -303,22 +215,23 @@ module _ (setting : Setting) (some : SettingSane setting) (m : Word → ℕ) (sl
     no_claim : (claim : Claim) → standing_of (Claims claim) ≡ Elsewhere → ⊥
     no_claim claim is = cc
 
-    takes_none : (routine : Routine) → standing_of routine ≡ Elsewhere → takes_in routine (m (word_of a)) ≡ false
+    takes_none : (routine : Routine) → standing_of routine ≡ Elsewhere → takes_in setting.sizes routine (m (word_of a)) ≡ false
     takes_none (Claims claim) is = absurd (no_claim claim is)
     takes_none _ is = refl
 
-    other_none : (j : ℕ) (routine : Routine) → standing_of routine ≡ Elsewhere → ClaimsOther j (m (word_of a)) routine
+    other_none : (j : ℕ) (routine : Routine) → standing_of routine ≡ Elsewhere → ClaimsOther setting.sizes.tops j (m (word_of a)) routine
     other_none j (Claims claim) is = absurd (no_claim claim is)
     other_none j _ is = tt
 
   retires_advances : (retirement : Retirement) (go : AfterRetire) → e.routine ≡ Retires retirement go → retirement.slot < v (kind_of setting.sizes retirement.slot) → AdvancesBy setting m slots v e (retire_wants retirement)
   retires_advances retirement go is lt = inl (
-    ap (λ (r : Routine). takes_in r (m (word_of (retire_wants retirement)))) is,
+    ap (λ (r : Routine). takes_in setting.sizes r (m (word_of (retire_wants retirement)))) is,
     still (retire_wants retirement) (retire_open setting.sizes (nodes_in setting) setting.first m v retirement.slot retirement.stage lt ordered).0
-        (λ j. subst (ClaimsOther j (m (word_of (retire_wants retirement)))) (sym is) tt) (λ claim claims_is. absurd (let no : Retires retirement go ≡ Claims claim = sym is ∙ claims_is in cc)),
+        (λ j. subst (ClaimsOther setting.sizes.tops j (m (word_of (retire_wants retirement)))) (sym is) tt) (λ claim claims_is. absurd (let no : Retires retirement go ≡ Claims claim = sym is ∙ claims_is in cc)),
   )
 
-  module _ (claim : Claim) (is : e.routine ≡ Claims claim) (known : claim.kind < length setting.sizes.kinds) (fits : ClaimFits setting.sizes claim.kind m v claim.sweep.stage claim.stage) where
+  module _ (claim : Claim) (is : e.routine ≡ Claims claim) (known : claim.kind < length setting.sizes.kinds) (same_tops : claim.sweep.tops ≡ setting.sizes.tops)
+      (fits : ClaimFits setting.sizes claim.kind m v claim.sweep.stage claim.stage) where
     abbrev told : ℕ
     told = m (word_of (claim_wants claim))
 
@@ -336,19 +249,19 @@ module _ (setting : Setting) (some : SettingSane setting) (m : Word → ℕ) (sl
     on_of v' on other also =
         subst (λ (c : Claim). let turn' = claim_accepts setting.sizes setting.last c told in ClaimOn setting.sizes m' v' turn'.claim turn'.ended) (same_claim claim other (sym is ∙ also)) on
 
-    takes_is : takes_in e.routine told ≡ takes_at claim.stage told
-    takes_is = ap (λ (r : Routine). takes_in r told) is
+    takes_is : takes_in setting.sizes e.routine told ≡ takes_at setting.sizes.tops claim.stage told
+    takes_is = ap (λ (r : Routine). takes_in setting.sizes r told) is
 
     -- if the exchange takes nothing
-    none_taken : takes_at claim.stage told ≡ false → frontier_at claim.kind claim.stage m v ≡ v → ((j : ℕ) → TakesOther j claim.stage told) → AdvancesBy setting m slots v e (claim_wants claim)
+    none_taken : takes_at setting.sizes.tops claim.stage told ≡ false → frontier_at setting.sizes.tops claim.kind claim.stage m v ≡ v → ((j : ℕ) → TakesOther setting.sizes.tops j claim.stage told) → AdvancesBy setting m slots v e (claim_wants claim)
     none_taken takes front other =
-        let k = claim_open setting.sizes setting.last (nodes_in setting) setting.first m v 0 claim claim.stage refl some.kinds some.few known ordered fits in
+        let k = claim_opens setting.sizes setting.last (nodes_in setting) setting.first m v 0 claim same_tops some.kinds some.few known ordered fits in
         inl (
           takes_is ∙ takes,
           record {
             words = subst (λ (x : ℕ → ℕ). AreOrdered setting.sizes (nodes_in setting) setting.first m' x) front k.words;
             moves = subst (λ (x : ℕ → ℕ). AllMove setting.sizes m m' v x) front k.moves;
-            untaken = λ j u. (u, subst (ClaimsOther j told) (sym is) (other j));
+            untaken = λ j u. (u, subst (ClaimsOther setting.sizes.tops j told) (sym is) (other j));
             past = past;
             ahead = ahead;
             on = on_of v (subst (λ (x : ℕ → ℕ). ClaimOn setting.sizes m' x turn.claim turn.ended) front k.on);
@@ -356,9 +269,9 @@ module _ (setting : Setting) (some : SettingSane setting) (m : Word → ℕ) (sl
         )
 
     -- if it takes t, a slot of the claim's kind, which stands before the kind's frontier or at it
-    one_taken : (q t next : ℕ) → claim.stage ≡ claims.Take q t next → kind_of setting.sizes t ≡ claim.kind → t ≤ v claim.kind → (m (Head claim.kind) == head_word q t) ≡ true → AdvancesBy setting m slots v e (claim_wants claim)
+    one_taken : (q t next : ℕ) → claim.stage ≡ claims.Take q t next → kind_of setting.sizes t ≡ claim.kind → t ≤ v claim.kind → (m (Head claim.kind) == head_word setting.sizes.tops q t) ≡ true → AdvancesBy setting m slots v e (claim_wants claim)
     one_taken q t next at its le finds =
-        let k = claim_open setting.sizes setting.last (nodes_in setting) setting.first m v 0 claim claim.stage refl some.kinds some.few known ordered fits in
+        let k = claim_opens setting.sizes setting.last (nodes_in setting) setting.first m v 0 claim same_tops some.kinds some.few known ordered fits in
         inr (
           takes_is ∙ takes,
           t,
@@ -366,7 +279,7 @@ module _ (setting : Setting) (some : SettingSane setting) (m : Word → ℕ) (sl
           record {
             words = subst (λ (x : ℕ → ℕ). AreOrdered setting.sizes (nodes_in setting) setting.first m' x) front k.words;
             moves = subst (λ (x : ℕ → ℕ). AllMove setting.sizes m m' v x) front k.moves;
-            untaken = λ j u. (let was = untaken_before setting slots t j u in (was.0, subst (ClaimsOther j told) (sym is) (subst (λ (stage : ClaimStage). TakesOther j stage told) (sym at) (λ took. was.1))));
+            untaken = λ j u. (let was = untaken_before setting slots t j u in (was.0, subst (ClaimsOther setting.sizes.tops j told) (sym is) (subst (λ (stage : ClaimStage). TakesOther setting.sizes.tops j stage told) (sym at) (λ took. was.1))));
             past = λ j low lt. has_past (t == v claim.kind) refl j low lt;
             ahead = λ j from. has_ahead (t == v claim.kind) refl j from;
             on = on_of (on_by (t == v claim.kind)) (subst (λ (x : ℕ → ℕ). ClaimOn setting.sizes m' x turn.claim turn.ended) front k.on);
@@ -379,11 +292,11 @@ module _ (setting : Setting) (some : SettingSane setting) (m : Word → ℕ) (sl
         told_is_head : told ≡ m (Head claim.kind)
         told_is_head = ap (λ (stage : ClaimStage). m (word_of (claim_wants (record claim { stage = stage })))) at
 
-        takes : takes_at claim.stage told ≡ true
-        takes = ap (λ (stage : ClaimStage). takes_at stage told) at ∙ (ap (λ (n : ℕ). n == head_word q t) told_is_head ∙ finds)
+        takes : takes_at setting.sizes.tops claim.stage told ≡ true
+        takes = ap (λ (stage : ClaimStage). takes_at setting.sizes.tops stage told) at ∙ (ap (λ (n : ℕ). n == head_word setting.sizes.tops q t) told_is_head ∙ finds)
 
-        front : frontier_at claim.kind claim.stage m v ≡ on_by (t == v claim.kind)
-        front = ap (λ (stage : ClaimStage). frontier_at claim.kind stage m v) at ∙ ap (λ (b : Bool). if b then on_by (t == v claim.kind) else v) finds
+        front : frontier_at setting.sizes.tops claim.kind claim.stage m v ≡ on_by (t == v claim.kind)
+        front = ap (λ (stage : ClaimStage). frontier_at setting.sizes.tops claim.kind stage m v) at ∙ ap (λ (b : Bool). if b then on_by (t == v claim.kind) else v) finds
 
         more : (j : ℕ) → has_slot slots j ≡ true → has_slot (t ∷ slots) j ≡ true
         more j has = of (t == j) (has_slot slots j) has where
@@ -431,28 +344,28 @@ module _ (setting : Setting) (some : SettingSane setting) (m : Word → ℕ) (sl
     claims_advance = of claim.stage refl fits where
       of : (stage : ClaimStage) → claim.stage ≡ stage → ClaimFits setting.sizes claim.kind m v claim.sweep.stage stage → AdvancesBy setting m slots v e (claim_wants claim)
       of claims.ReadHead at w =
-          none_taken (ap (λ (x : ClaimStage). takes_at x told) at) (ap (λ (x : ClaimStage). frontier_at claim.kind x m v) at) (λ j. subst (λ (x : ClaimStage). TakesOther j x told) (sym at) tt)
+          none_taken (ap (λ (x : ClaimStage). takes_at setting.sizes.tops x told) at) (ap (λ (x : ClaimStage). frontier_at setting.sizes.tops claim.kind x m v) at) (λ j. subst (λ (x : ClaimStage). TakesOther setting.sizes.tops j x told) (sym at) tt)
       of (claims.ReadLink q t) at w =
-          none_taken (ap (λ (x : ClaimStage). takes_at x told) at) (ap (λ (x : ClaimStage). frontier_at claim.kind x m v) at) (λ j. subst (λ (x : ClaimStage). TakesOther j x told) (sym at) tt)
+          none_taken (ap (λ (x : ClaimStage). takes_at setting.sizes.tops x told) at) (ap (λ (x : ClaimStage). frontier_at setting.sizes.tops claim.kind x m v) at) (λ j. subst (λ (x : ClaimStage). TakesOther setting.sizes.tops j x told) (sym at) tt)
       of (claims.StoreUsed q t) at w =
-          none_taken (ap (λ (x : ClaimStage). takes_at x told) at) (ap (λ (x : ClaimStage). frontier_at claim.kind x m v) at) (λ j. subst (λ (x : ClaimStage). TakesOther j x told) (sym at) tt)
+          none_taken (ap (λ (x : ClaimStage). takes_at setting.sizes.tops x told) at) (ap (λ (x : ClaimStage). frontier_at setting.sizes.tops claim.kind x m v) at) (λ j. subst (λ (x : ClaimStage). TakesOther setting.sizes.tops j x told) (sym at) tt)
       of (claims.Withdraw own) at w =
-          none_taken (ap (λ (x : ClaimStage). takes_at x told) at) (ap (λ (x : ClaimStage). frontier_at claim.kind x m v) at) (λ j. subst (λ (x : ClaimStage). TakesOther j x told) (sym at) tt)
+          none_taken (ap (λ (x : ClaimStage). takes_at setting.sizes.tops x told) at) (ap (λ (x : ClaimStage). frontier_at setting.sizes.tops claim.kind x m v) at) (λ j. subst (λ (x : ClaimStage). TakesOther setting.sizes.tops j x told) (sym at) tt)
       of claims.Sweeps at w =
-          none_taken (ap (λ (x : ClaimStage). takes_at x told) at) (ap (λ (x : ClaimStage). frontier_at claim.kind x m v) at) (λ j. subst (λ (x : ClaimStage). TakesOther j x told) (sym at) tt)
-      of (claims.Take q t next) at w = by (m (Head claim.kind) == head_word q t) refl where
+          none_taken (ap (λ (x : ClaimStage). takes_at setting.sizes.tops x told) at) (ap (λ (x : ClaimStage). frontier_at setting.sizes.tops claim.kind x m v) at) (λ j. subst (λ (x : ClaimStage). TakesOther setting.sizes.tops j x told) (sym at) tt)
+      of (claims.Take q t next) at w = by (m (Head claim.kind) == head_word setting.sizes.tops q t) refl where
         at_head : told ≡ m (Head claim.kind)
         at_head = ap (λ (stage : ClaimStage). m (word_of (claim_wants (record claim { stage = stage })))) at
 
         its : kind_of setting.sizes t ≡ claim.kind
         its = in_range_is_of_kind setting.sizes claim.kind t known (w.0, near_inside (range_of setting.sizes claim.kind) (v claim.kind) t w.1.0)
 
-        by : (b : Bool) → (m (Head claim.kind) == head_word q t) ≡ b → AdvancesBy setting m slots v e (claim_wants claim)
+        by : (b : Bool) → (m (Head claim.kind) == head_word setting.sizes.tops q t) ≡ b → AdvancesBy setting m slots v e (claim_wants claim)
         by true finds = one_taken q t next at its (near_below (range_of setting.sizes claim.kind) (v claim.kind) t w.1.0) finds
-        by false fails = none_taken (ap (λ (x : ClaimStage). takes_at x told) at ∙ lost) (ap (λ (x : ClaimStage). frontier_at claim.kind x m v) at ∙ ap (λ (b : Bool). if b then (if t == v claim.kind then put v claim.kind (v claim.kind + 1) else v) else v) fails)
-            (λ j. subst (λ (x : ClaimStage). TakesOther j x told) (sym at) (λ took. absurd (let z : false ≡ true = sym lost ∙ took in cc))) where
-              lost : (told == head_word q t) ≡ false
-              lost = ap (λ (n : ℕ). n == head_word q t) at_head ∙ fails
+        by false fails = none_taken (ap (λ (x : ClaimStage). takes_at setting.sizes.tops x told) at ∙ lost) (ap (λ (x : ClaimStage). frontier_at setting.sizes.tops claim.kind x m v) at ∙ ap (λ (b : Bool). if b then (if t == v claim.kind then put v claim.kind (v claim.kind + 1) else v) else v) fails)
+            (λ j. subst (λ (x : ClaimStage). TakesOther setting.sizes.tops j x told) (sym at) (λ took. absurd (let z : false ≡ true = sym lost ∙ took in cc))) where
+              lost : (told == head_word setting.sizes.tops q t) ≡ false
+              lost = ap (λ (n : ℕ). n == head_word setting.sizes.tops q t) at_head ∙ fails
 
 -- ---- events
 
@@ -497,7 +410,7 @@ module _ (target : Target) (setting : Setting) (sane : Methods target) (some : S
     safe = subst (λ (o : Option WordAccess). AsksSafely target setting o) want (wants_safe target setting e sane some fits own busy)
 
     -- a slot that the step doesn't claim stays untouched
-    pub untouched_stays : (j : ℕ) → 1 ≤ j → in_row setting.sizes (Status j) ≡ true → IsUntouched target setting state j → ClaimsOther j found e.routine
+    pub untouched_stays : (j : ℕ) → 1 ≤ j → in_row setting.sizes (Status j) ≡ true → IsUntouched target setting state j → ClaimsOther setting.sizes.tops j found e.routine
         → IsUntouched target setting (stepped_state state c e a) j
     untouched_stays j low row u other = record { status = status; words = words; entries = entries } where
       held : EntryAvoids j e
@@ -546,8 +459,8 @@ module _ (target : Target) (setting : Setting) (sane : Methods target) (some : S
     later_belongs = after_belongs target setting e found sane some fits own (subst (λ (o : Option WordAccess). MayBeTold target setting o found) (sym want) (found_told target setting state a sound safe))
 
     module _ (slots : List ℕ) (v : ℕ → ℕ) (pool : Pool target setting state slots v) where
-      mine : CallerPool setting slots e
-      mine = pool.callers c e there
+      mine : IsBefore e.routine
+      mine = pool.before c e there
 
       status_row : (j : ℕ) → j ≤ setting.sizes.slots → in_row setting.sizes (Status j) ≡ true
       status_row j le = let lt : j < setting.sizes.slots + 1 = omega (arith, le) in grind (arith, nat_tests)
@@ -559,34 +472,32 @@ module _ (target : Target) (setting : Setting) (sane : Methods target) (some : S
 
         of : (routine : Routine) → e.routine ≡ routine → Fits setting.sizes m v (standing_of routine) → AdvancesBy setting m slots v e a
         of (Claims claim) is w =
-            subst (AdvancesBy setting m slots v e) (same_access (claim_wants claim) (wants_claims target e claim is)) (claims_advance setting some m slots v e pool.words pool.past pool.ahead claim is w.0 w.1)
+            subst (AdvancesBy setting m slots v e) (same_access (claim_wants claim) (wants_claims target e claim is)) (claims_advance setting some m slots v e pool.words pool.past pool.ahead claim is w.0 w.2 w.1)
         of (Retires retirement go) is w =
             subst (AdvancesBy setting m slots v e) (same_access (retire_wants retirement) (wants_retires target e retirement go is)) (retires_advances setting some m slots v e pool.words pool.past pool.ahead retirement go is w)
         of _ is w = elsewhere_advances setting some m slots v e pool.words pool.past pool.ahead target a (ap standing_of is) want
 
-      -- a third look that found no slot on top
-      touches : (claim : Claim) → e.routine ≡ Claims claim → (claim_accepts setting.sizes setting.last claim found).ended ≡ Some ends.Full → KindTouched setting slots
-      touches claim is full =
-          let s : StepMade = record { entry = e; found = found } in
-          let finds : FindsNoTop s = subst (GivesAt setting s claim is) full (claim_gives setting s claim is) in
-          (finds.claim.kind, known finds, all_touched setting slots m v finds.claim.kind (known finds) pool.words pool.past (at_top finds (wanted finds))) where
-            known : (finds : FindsNoTop (record { entry = e; found = found })) → finds.claim.kind < length setting.sizes.kinds
-            known finds = let stands : Stands target setting e (Claims finds.claim) = subst (Stands target setting e) finds.claims own.stands in stands.1.kind
+      -- a look that finds no slot of its kind on top
+      pub sought_touched : (claim : Claim) → e.routine ≡ Claims claim → claim.stage ≡ claims.ReadHead → (head_parts setting.sizes.tops found).top ≡ 0
+          → (claim.kind < length setting.sizes.kinds) × AllTouched setting claim.kind slots
+      sought_touched claim is looks empty = (known, all_touched setting slots m v claim.kind known pool.words pool.past at_top) where
+        known : claim.kind < length setting.sizes.kinds
+        known = let stands : Stands target setting e (Claims claim) = subst (Stands target setting e) is own.stands in stands.1.kind
 
-            wanted : (finds : FindsNoTop (record { entry = e; found = found })) → word_of a ≡ Head finds.claim.kind
-            wanted finds =
-                let both : Some (claim_wants finds.claim) ≡ Some a = sym (wants_claims target e finds.claim finds.claims) ∙ want in
-                let same : claim_wants finds.claim ≡ a = cc in
-                ap word_of (sym same) ∙ ap (λ (stage : ClaimStage). word_of (claim_wants (record finds.claim { stage = stage }))) finds.looks
+        head : word_of a ≡ Head claim.kind
+        head =
+            let both : Some (claim_wants claim) ≡ Some a = sym (wants_claims target e claim is) ∙ want in
+            let same : claim_wants claim ≡ a = cc in
+            ap word_of (sym same) ∙ ap (λ (stage : ClaimStage). word_of (claim_wants (record claim { stage = stage }))) looks
 
-            at_top : (finds : FindsNoTop (record { entry = e; found = found })) → word_of a ≡ Head finds.claim.kind → top m finds.claim.kind ≡ 0
-            at_top finds head = ap (λ (n : ℕ). (head_parts n).top) (ap m (sym head) ∙ found_seen) ∙ finds.empty
+        at_top : top setting.sizes.tops m claim.kind ≡ 0
+        at_top = ap (λ (n : ℕ). (head_parts setting.sizes.tops n).top) (ap m (sym head) ∙ found_seen) ∙ empty
 
-      module _ (slots' : List ℕ) (v' : ℕ → ℕ) (adv : Advances setting m slots v e a slots' v') (more : (f : Entry) → CallerPool setting slots f → CallerPool setting slots' f) where
+      module _ (slots' : List ℕ) (v' : ℕ → ℕ) (adv : Advances setting m slots v e a slots' v') where
         untouched_then : (j : ℕ) → IsUntaken setting slots' j → IsUntouched target setting (stepped_state state c e a) j
         untouched_then j u =
             let was = adv.untaken j u in
-            untouched_stays j (held_some setting j u.0) (status_row j u.1) (pool.untouched j was.0) (subst (λ (n : ℕ). ClaimsOther j n e.routine) found_seen was.1)
+            untouched_stays j (held_some setting j u.0) (status_row j u.1) (pool.untouched j was.0) (subst (λ (n : ℕ). ClaimsOther setting.sizes.tops j n e.routine) found_seen was.1)
 
         begins_fit : HoldsAtBegins target setting.sizes (ClaimsFit setting.sizes (after_access m a) v')
         begins_fit = record { idle = tt; seen = λ why. tt; here = tt; lists = λ k. tt; retires = λ j go. tt; restarts = tt; clears = λ next. tt; claims = λ e scheme. (news_fit target setting sane some fits e.running.call.op e.hand.wrapup e.hand.at, tt); zeroes = λ k field. tt; announces = λ announcing. tt }
@@ -629,7 +540,7 @@ module _ (target : Target) (setting : Setting) (sane : Methods target) (some : S
               (cases_lt retirement.slot (v' (kind_of setting.sizes retirement.slot)))
 
           of : (routine : Routine) → later.routine ≡ routine → ClaimsFit setting.sizes (after_access m a) v' routine → Fits setting.sizes (after_access m a) v' (standing_of routine)
-          of (Claims claim) is w = w
+          of (Claims claim) is w = let stands : Stands target setting later (Claims claim) = subst (Stands target setting later) is later_belongs.stands in (w.0, w.1, stands.1.tops)
           of (Retires retirement go) is w = below retirement go is
           of _ is w = tt
 
@@ -643,15 +554,15 @@ module _ (target : Target) (setting : Setting) (sane : Methods target) (some : S
               (λ (t : (d ≡ c) × (f ≡ after target setting e found)). subst (λ (x : Entry). Fits setting.sizes (after_access m a) v' (standing_of x.routine)) (sym t.1) own_fits)
               (λ (t : slice_get state.entries d ≡ Some f). fits_later setting.sizes (nodes_in setting) setting.first m (after_access m a) v v' some.kinds pool.words adv.moves (standing_of f.routine) (pool.fits d f t))
               (set_got state.entries c d (after target setting e found) f got));
-          callers = λ d f got. ⊎_elim
-              (λ (t : (d ≡ c) × (f ≡ after target setting e found)). subst (CallerPool setting slots') (sym t.1) (more (after target setting e found) (caller_step target setting slots e found busy mine touches)))
-              (λ (t : slice_get state.entries d ≡ Some f). more f (pool.callers d f t))
+          before = λ d f got. ⊎_elim
+              (λ (t : (d ≡ c) × (f ≡ after target setting e found)). subst (λ (x : Entry). IsBefore x.routine) (sym t.1) (before_after target setting e found busy mine))
+              (λ (t : slice_get state.entries d ≡ Some f). pool.before d f t)
               (set_got state.entries c d (after target setting e found) f got);
           count = count;
         }
 
-      counts : (b : Bool) → takes_in e.routine (m (word_of a)) ≡ b → (after target setting e found).counts.claims ≡ count_after b e.counts.claims
-      counts b is = counts_after target setting e found busy mine.before ∙ ap (λ (x : Bool). count_after x e.counts.claims) (ap (takes_in e.routine) (sym found_seen) ∙ is)
+      counts : (b : Bool) → takes_in setting.sizes e.routine (m (word_of a)) ≡ b → (after target setting e found).counts.claims ≡ count_after b e.counts.claims
+      counts b is = counts_after target setting e found busy mine ∙ ap (λ (x : Bool). count_after x e.counts.claims) (ap (takes_in setting.sizes e.routine) (sym found_seen) ∙ is)
 
       pub step_pool : IsPooled target setting (stepped_state state c e a)
       step_pool = of advances where
@@ -659,12 +570,12 @@ module _ (target : Target) (setting : Setting) (sane : Methods target) (some : S
         of (inl kept) = record {
           slots = slots;
           frontier = v;
-          pool = pool_then slots v kept.1 (λ f p. p) (counts_same (length slots) state.entries c e (after target setting e found) there (counts false kept.0) pool.count);
+          pool = pool_then slots v kept.1 (counts_same (length slots) state.entries c e (after target setting e found) there (counts false kept.0) pool.count);
         }
         of (inr took) = record {
           slots = took.1 ∷ slots;
           frontier = took.2;
-          pool = pool_then (took.1 ∷ slots) took.2 took.3 (λ f p. caller_more setting slots took.1 f p) (counts_more (length slots) state.entries c e (after target setting e found) there (counts true took.0) pool.count);
+          pool = pool_then (took.1 ∷ slots) took.2 took.3 (counts_more (length slots) state.entries c e (after target setting e found) there (counts true took.0) pool.count);
         }
 
   -- a call is taken
@@ -679,9 +590,9 @@ module _ (target : Target) (setting : Setting) (sane : Methods target) (some : S
         (λ (t : (d ≡ c) × (f ≡ taken setting.reclamation call e)). subst (λ (x : Entry). Fits setting.sizes (seen setting.sizes state.words) v (standing_of x.routine)) (sym t.1) (subst (Fits setting.sizes (seen setting.sizes state.words) v) (sym (first_elsewhere setting.reclamation)) tt))
         (λ (t : slice_get state.entries d ≡ Some f). pool.fits d f t)
         (set_got state.entries c d (taken setting.reclamation call e) f got);
-    callers = λ d f got. ⊎_elim
-        (λ (t : (d ≡ c) × (f ≡ taken setting.reclamation call e)). subst (CallerPool setting slots) (sym t.1) (record { before = first_before setting.reclamation; full = (pool.callers c e there).full }))
-        (λ (t : slice_get state.entries d ≡ Some f). pool.callers d f t)
+    before = λ d f got. ⊎_elim
+        (λ (t : (d ≡ c) × (f ≡ taken setting.reclamation call e)). subst (λ (x : Entry). IsBefore x.routine) (sym t.1) (first_before setting.reclamation))
+        (λ (t : slice_get state.entries d ≡ Some f). pool.before d f t)
         (set_got state.entries c d (taken setting.reclamation call e) f got);
     count = counts_same (length slots) state.entries c e (taken setting.reclamation call e) there refl pool.count;
   }

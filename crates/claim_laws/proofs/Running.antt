@@ -45,7 +45,7 @@ steps_further target setting c (event ∷ events) more state mid calls runs =
       of further (Some next) r = further next (event_steps target setting c state event calls) r
 
 -- one more event
-steps_more : (target : Target) (setting : Setting) (c : ℕ) (past : List CoreEvent) (event : CoreEvent) (state later : CoreState) → core_run target setting past (core_start target setting) ≡ Some state
+pub steps_more : (target : Target) (setting : Setting) (c : ℕ) (past : List CoreEvent) (event : CoreEvent) (state later : CoreState) → core_run target setting past (core_start target setting) ≡ Some state
     → core_event target setting state event ≡ Some later → call_steps target setting (past ++ event ∷ []) c ≡ event_steps target setting c state event (call_steps target setting past c)
 steps_more target setting c past event state later runs goes =
     let now : List (List StepMade) = event_steps target setting c state event (call_steps target setting past c) in
@@ -53,7 +53,7 @@ steps_more target setting c past event state later runs goes =
     ∙ ap (λ (o : Option CoreState). steps_on o now (λ (next : CoreState). events_steps target setting c [] next now)) goes
 
 -- what the start has and each event keeps, told of the events
-along : (target : Target) (setting : Setting) (Holds : List CoreEvent → CoreState → Type 0) → Holds [] (core_start target setting)
+pub along : (target : Target) (setting : Setting) (Holds : List CoreEvent → CoreState → Type 0) → Holds [] (core_start target setting)
     → ((past : List CoreEvent) (state later : CoreState) (event : CoreEvent) → core_run target setting past (core_start target setting) ≡ Some state → Holds past state → core_event target setting state event ≡ Some later
     → Holds (past ++ event ∷ []) later)
     → (events : List CoreEvent) (state : CoreState) → core_run target setting events (core_start target setting) ≡ Some state → Holds events state

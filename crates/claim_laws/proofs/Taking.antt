@@ -34,11 +34,18 @@ use Rattle.claim_laws.specs.CallSteps.{StepMade, call_steps}
 use Rattle.claim_laws.specs.Full.{claims_in}
 use Rattle.claim_laws.specs.Publishing.{again_routine, news_of_call, HasFewNews, PublishedEnd, new_calls, new_calls_in, FullTakesCalls}
 use Rattle.claim_laws.proofs.Running.{IsStepOf, StepKeeps, Stands, run_stands}
-use Rattle.claim_laws.proofs.Pooling.{got_last}
-use Rattle.claim_laws.proofs.Filling.{reached_pool, full_takes}
+use Rattle.claim_laws.proofs.Filling.{reached_pool}
+use Rattle.claim_laws.proofs.Sought.{full_takes}
 use Rattle.claim_laws.proofs.Calling.{credit, credits, HasPublished, Standing, Ended, Going, call_step}
 
 -- ---- one caller
+
+-- one more reply
+got_last : (given : List Replied) (i : ℕ) (r new : Replied) → slice_get (given ++ new ∷ []) i ≡ Some r → (slice_get given i ≡ Some r) ⊎ (new ≡ r)
+got_last [] zero r new is = inr cc
+got_last [] (suc i) r new is = absurd (let z : None ≡ Some r = is in cc)
+got_last (x ∷ given) zero r new is = inl is
+got_last (x ∷ given) (suc i) r new is = got_last given i r new is
 
 abbrev FullNew : Target → List Replied → Type 0
 FullNew target given = (i : ℕ) (r : Replied) → slice_get given i ≡ Some r → r.reply ≡ replies.Full → 1 ≤ news_of_call target r.call
@@ -64,8 +71,8 @@ pub claim_on_step : (target : Target) (text : Text) (setting : Setting) → MayB
 claim_on_step target text setting runs own fits past state k d a claim step is =
     let stands : StandsAt target setting d (Claims claim) = subst (StandsAt target setting d) is belongs.stands in
     let wanted : a ≡ claim_wants claim = (let same : Some a ≡ Some (claim_wants claim) = sym step.wanted ∙ wants_claims target d claim is in cc) in
-    let told : Accepts target setting (claim_wants_at claim.kind claim.sweep claim.stage) (found_by setting state a) = subst (λ (x : WordAccess). Accepts target setting x (found_by setting state a)) wanted (found_told target setting state a sound safe) in
-    claim_keeps target setting d.number claim (found_by setting state a) claim.stage refl (setting_sane setting own) (let lt = belongs.number in omega (arith, lt)) stands.1.kind stands.1.scheme stands.1.stands stands.1.sweep told where
+    let told : Accepts target setting (claim_wants claim) (found_by setting state a) = subst (λ (x : WordAccess). Accepts target setting x (found_by setting state a)) wanted (found_told target setting state a sound safe) in
+    claim_keeps target setting d.number claim (found_by setting state a) claim.stage refl (setting_sane setting own) (let lt = belongs.number in omega (arith, lt)) stands.1.kind (stands.1.scheme, stands.1.tops) stands.1.stands stands.1.sweep told where
       sound : IsSound target setting state
       sound = states_are_sound target text setting state runs own fits (record { events = past; runs = step.came })
 
@@ -81,7 +88,7 @@ module _ (target : Target) (text : Text) (setting : Setting) (runs : MayBeWalked
   -- a caller's step
   keeps : StepKeeps target setting (HasRested target) (IsRunning target setting)
   keeps past state k d a steps step own was =
-      by (call_step target setting (methods target text runs) (setting_sane setting own_setting) few d found steps belongs belongs_later step.busy (((reached_pool target text setting runs own_setting fits state reached).pool.callers k d step.there).before) again was.stands on)
+      by (call_step target setting (methods target text runs) (setting_sane setting own_setting) few d found steps belongs belongs_later step.busy (((reached_pool target text setting runs own_setting fits state reached).pool.before k d step.there)) again was.stands on)
     where
       found : ℕ
       found = found_by setting state a
@@ -204,10 +211,10 @@ all_below target (x ∷ entries) (suc c) e each got below = let here = each 0 x 
 
 pub full_takes_calls : ForRuns FullTakesCalls
 full_takes_calls target text setting runs own fits = record {
-  each = λ state c i e replied few never reached there got full.
-      let calls = all_called target text setting runs own fits few never reached.events state reached.runs in
-      let claims = (full_takes target text setting runs own fits).each state c i e replied reached there got full in
-      let below = all_below target state.entries c e (λ d f at. caller_within target setting f (call_steps target setting reached.events d) (calls d f at)) there
-      (caller_below target setting e (call_steps target setting reached.events c) i replied (calls c e there) got full) in
-      (claims.0, claims.1, (let enough = claims.2 in omega (arith, enough, below)));
+  each = λ events state c i e replied few never run there got full.
+      let calls = all_called target text setting runs own fits few never events state run in
+      let fill = (full_takes target text setting runs own fits).each events state c i e replied run there got full in
+      let below = all_below target state.entries c e (λ d f at. caller_within target setting f (call_steps target setting events d) (calls d f at)) there
+      (caller_below target setting e (call_steps target setting events c) i replied (calls c e there) got full) in
+      (fill.0, fill.1, fill.2, (let enough = fill.3 in omega (arith, enough, below)));
 }

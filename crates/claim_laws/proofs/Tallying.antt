@@ -8,7 +8,7 @@ use native.Mathlib.Decide.{ℕ_discrete}
 use Rattle.norm_lang.specs.declared.text.Text.{Text}
 use Rattle.target_code.specs.declared.target.Target.{Target}
 use Rattle.target_laws.specs.target_runs.Runnable.{MayBeWalked}
-use Rattle.oa_words.specs.Words.{Status, in_row}
+use Rattle.oa_words.specs.Words.{Status, Sizes, in_row}
 use Rattle.oa_words.specs.Packed.{head_word}
 use Rattle.guard_words.specs.Guards.{has_slot}
 use Rattle.phase_pools.specs.declared.stages.ClaimStage.{ClaimStage}
@@ -45,7 +45,7 @@ use Rattle.claim_laws.proofs.Filling.{start_untouched, reached_pool}
 abbrev Grows : ℕ → ℕ → ℕ → Type 0
 Grows before more later = later ≡ min (before + more) (2 ^ 64 - 1)
 
-abbrev IsCount : ℕ → Type 0
+abbrev pub IsCount : ℕ → Type 0
 IsCount n = n ≤ 2 ^ 64 - 1
 
 stays_count : (n : ℕ) → IsCount n → Grows n 0 n
@@ -55,21 +55,21 @@ one_more_grows : (n : ℕ) → IsCount n → Grows n 1 (one_more n)
 one_more_grows n le = omega (arith, le)
 
 -- a claim that takes a slot counts one more
-taken_counts : (routine : Routine) (word n : ℕ) → IsCount n → Grows n (length (taken_in routine word)) (count_after (takes_in routine word) n)
-taken_counts (Claims claim) word n le = of claim.stage where
-  of : (stage : ClaimStage) → Grows n (length (taken_at stage word)) (count_after (takes_at stage word) n)
-  of (claims.Take q t next) = by (word == head_word q t) where
+taken_counts : (sizes : Sizes) (routine : Routine) (word n : ℕ) → IsCount n → Grows n (length (taken_in sizes.tops routine word)) (count_after (takes_in sizes routine word) n)
+taken_counts sizes (Claims claim) word n le = of claim.stage where
+  of : (stage : ClaimStage) → Grows n (length (taken_at sizes.tops stage word)) (count_after (takes_at sizes.tops stage word) n)
+  of (claims.Take q t next) = by (word == head_word sizes.tops q t) where
     by : (b : Bool) → Grows n (length (if b then t ∷ [] else [])) (count_after b n)
     by true = one_more_grows n le
     by false = stays_count n le
   of _ = stays_count n le
-taken_counts _ word n le = stays_count n le
+taken_counts sizes _ word n le = stays_count n le
 
 module _ (target : Target) (setting : Setting) where
   -- each step counts the slot that it took
-  step_grows : (e : Entry) (word : ℕ) → is_idle e.routine ≡ false → IsBefore e.routine → IsCount e.counts.claims → Grows e.counts.claims (length (taken_in e.routine word)) (after target setting e word).counts.claims
+  step_grows : (e : Entry) (word : ℕ) → is_idle e.routine ≡ false → IsBefore e.routine → IsCount e.counts.claims → Grows e.counts.claims (length (taken_in setting.sizes.tops e.routine word)) (after target setting e word).counts.claims
   step_grows e word busy before le =
-      subst (λ (n : ℕ). Grows e.counts.claims (length (taken_in e.routine word)) n) (sym (counts_after target setting e word busy before)) (taken_counts e.routine word e.counts.claims le)
+      subst (λ (n : ℕ). Grows e.counts.claims (length (taken_in setting.sizes.tops e.routine word)) n) (sym (counts_after target setting e word busy before)) (taken_counts setting.sizes e.routine word e.counts.claims le)
 
   -- the caller's entry in a state, with so many more claims than before
   abbrev Tallies : CoreState → ℕ → ℕ → ℕ → Type 0
@@ -119,12 +119,12 @@ module _ (target : Target) (setting : Setting) where
     by d at (Some a) want true idle became = absurd (idle_wants target d a idle want)
     by d at (Some a) want false idle became =
         let found : ℕ = found_by setting state a in
-        let own : flat_map slots_taken (steps_by target setting state (slice_get state.entries k)) ≡ taken_in d.routine found ++ [] =
-        ap (λ (o : Option Entry). flat_map slots_taken (steps_by target setting state o)) at ∙ ap (λ (o : Option WordAccess). flat_map slots_taken (steps_wanted setting state d o)) want in
-        let count : length (event_claims target setting c state (Steps k)) ≡ (if k == c then length (taken_in d.routine found) else 0) =
-        ap (λ (l : List ℕ). length (if k == c then l else [])) (own ∙ append-nil (taken_in d.routine found)) ∙ length_if (k == c) (taken_in d.routine found) in
+        let own : flat_map (slots_taken setting) (steps_by target setting state (slice_get state.entries k)) ≡ taken_in setting.sizes.tops d.routine found ++ [] =
+        ap (λ (o : Option Entry). flat_map (slots_taken setting) (steps_by target setting state o)) at ∙ ap (λ (o : Option WordAccess). flat_map (slots_taken setting) (steps_wanted setting state d o)) want in
+        let count : length (event_claims target setting c state (Steps k)) ≡ (if k == c then length (taken_in setting.sizes.tops d.routine found) else 0) =
+        ap (λ (l : List ℕ). length (if k == c then l else [])) (own ∙ append-nil (taken_in setting.sizes.tops d.routine found)) ∙ length_if (k == c) (taken_in setting.sizes.tops d.routine found) in
         subst (Tallies mid c e.counts.claims) (sym count)
-        (one_changes state mid (made setting state a) k c (length (taken_in d.routine found)) d (after target setting d found) e (some_is _ mid became) at there (known c e there).1
+        (one_changes state mid (made setting state a) k c (length (taken_in setting.sizes.tops d.routine found)) d (after target setting d found) e (some_is _ mid became) at there (known c e there).1
         (step_grows d found idle (known k d at).0 (known k d at).1))
 
     of : (o : Option Entry) → slice_get state.entries k ≡ o → event_by target setting state (Steps k) o ≡ Some mid → Tallies mid c e.counts.claims (length (event_claims target setting c state (Steps k)))
@@ -134,22 +134,22 @@ module _ (target : Target) (setting : Setting) where
 -- ---- a run
 
 module _ (target : Target) (text : Text) (setting : Setting) (runs : MayBeWalked target text) (own : IsSetting setting) (fits : Fits target setting) where
-  abbrev Known : CoreState → Type 0
+  abbrev pub Known : CoreState → Type 0
   Known state = (k : ℕ) (d : Entry) → slice_get state.entries k ≡ Some d → IsBefore d.routine × IsCount d.counts.claims
 
   counts_within : (state : CoreState) → Reachable target setting state → (k : ℕ) (d : Entry) → slice_get state.entries k ≡ Some d → IsCount d.counts.claims
   counts_within state reached = induct_reached target setting (λ (s : CoreState). (k : ℕ) (d : Entry) → slice_get s.entries k ≡ Some d → IsCount d.counts.claims)
       (λ k d is. let there = idle_at 0 setting.sizes.callers k d is in subst (λ (x : Entry). IsCount x.counts.claims) (sym there.1) (omega arith))
       (λ now later event was counts goes k d is.
-      let known : Known now = (λ i f at. (((reached_pool target text setting runs own fits now was).pool.callers i f at).before, counts i f at)) in
+      let known : Known now = (λ i f at. ((reached_pool target text setting runs own fits now was).pool.before i f at, counts i f at)) in
       let first = run_count target setting (event ∷ []) now later k d (run_more target setting [] event now now later refl goes) is in
       let tallies = event_tallies target setting now later event k first.0 known goes first.1 in
       let same : tallies.0 ≡ d = (let at = tallies.1 in cc) in
       let grows = tallies.2 in
       subst (λ (x : Entry). IsCount x.counts.claims) same (omega (arith, grows))) state reached
 
-  known_in : (state : CoreState) → Reachable target setting state → Known state
-  known_in state reached k d at = (((reached_pool target text setting runs own fits state reached).pool.callers k d at).before, counts_within state reached k d at)
+  pub known_in : (state : CoreState) → Reachable target setting state → Known state
+  known_in state reached k d at = ((reached_pool target text setting runs own fits state reached).pool.before k d at, counts_within state reached k d at)
 
   grows_on : (a b c m n : ℕ) → Grows a m b → Grows b n c → Grows a (m + n) c
   grows_on a b c m n first next = omega (arith, first, next)
@@ -187,10 +187,10 @@ module _ (target : Target) (text : Text) (setting : Setting) (runs : MayBeWalked
 
   -- ---- a slot that isn't claimed
 
-  not_claimed : (j word : ℕ) (routine : Routine) → has_slot (taken_in routine word) j ≡ false → ClaimsOther j word routine
+  not_claimed : (j word : ℕ) (routine : Routine) → has_slot (taken_in setting.sizes.tops routine word) j ≡ false → ClaimsOther setting.sizes.tops j word routine
   not_claimed j word (Claims claim) none = of claim.stage none where
-    of : (stage : ClaimStage) → has_slot (taken_at stage word) j ≡ false → TakesOther j stage word
-    of (claims.Take q t next) none = by (word == head_word q t) none where
+    of : (stage : ClaimStage) → has_slot (taken_at setting.sizes.tops stage word) j ≡ false → TakesOther setting.sizes.tops j stage word
+    of (claims.Take q t next) none = by (word == head_word setting.sizes.tops q t) none where
       by : (b : Bool) → has_slot (if b then t ∷ [] else []) j ≡ false → b ≡ true → t ≢ j
       by true none took same = let own : (t == j) ≡ true = grind (arith, nat_tests) in let z : true ≡ false = sym (ap (λ (d : Bool). d || false) own) ∙ none in cc
       by false none took same = let z : false ≡ true = took in cc
@@ -221,10 +221,10 @@ module _ (target : Target) (text : Text) (setting : Setting) (runs : MayBeWalked
       by d at (Some a) want true idle became = absurd (idle_wants target d a idle want)
       by d at (Some a) want false idle became =
           let found : ℕ = found_by setting state a in
-          let slots : flat_map slots_taken (steps_by target setting state (slice_get state.entries k)) ≡ taken_in d.routine found =
-          ap (λ (o : Option Entry). flat_map slots_taken (steps_by target setting state o)) at ∙ (ap (λ (o : Option WordAccess). flat_map slots_taken (steps_wanted setting state d o)) want ∙ append-nil (taken_in d.routine found)) in
-          let mine : event_claims target setting k state (Steps k) ≡ taken_in d.routine found =
-          ap (λ (b : Bool). if b then flat_map slots_taken (steps_by target setting state (slice_get state.entries k)) else []) (eq-eqb k k refl) ∙ slots in
+          let slots : flat_map (slots_taken setting) (steps_by target setting state (slice_get state.entries k)) ≡ taken_in setting.sizes.tops d.routine found =
+          ap (λ (o : Option Entry). flat_map (slots_taken setting) (steps_by target setting state o)) at ∙ (ap (λ (o : Option WordAccess). flat_map (slots_taken setting) (steps_wanted setting state d o)) want ∙ append-nil (taken_in setting.sizes.tops d.routine found)) in
+          let mine : event_claims target setting k state (Steps k) ≡ taken_in setting.sizes.tops d.routine found =
+          ap (λ (b : Bool). if b then flat_map (slots_taken setting) (steps_by target setting state (slice_get state.entries k)) else []) (eq-eqb k k refl) ∙ slots in
           subst (λ (s : CoreState). IsUntouched target setting s j) (some_is _ mid became)
           (untouched_stays target setting (methods target text runs) (setting_sane setting own) fits state k d a (states_are_sound target text setting state runs own fits reached) at idle want j
           some row was (not_claimed j found d.routine (sym (ap (λ (l : List ℕ). has_slot l j) mine) ∙ none k)))

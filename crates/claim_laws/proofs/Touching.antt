@@ -98,24 +98,24 @@ module _ (target : Target) (setting : Setting) (j : ℕ) where
   warn_leaves (Announced own) c s is = refl
 
   -- no sweep makes ready what isn't retired
-  sweep_leaves : (scheme : Scheme) (bound : ℕ) (stage : SweepStage) → Leaves (Some (sweep_wants_at scheme stage bound))
-  sweep_leaves scheme bound (sweeps.RaisePhase p) is = absurd cc
-  sweep_leaves scheme bound (sweeps.Warn c) is = warn_leaves scheme c bound is
-  sweep_leaves scheme bound (sweeps.MakeReady k q) is =
+  sweep_leaves : (tops : ℕ) (scheme : Scheme) (bound : ℕ) (stage : SweepStage) → Leaves (Some (sweep_wants_at tops scheme stage bound))
+  sweep_leaves tops scheme bound (sweeps.RaisePhase p) is = absurd cc
+  sweep_leaves tops scheme bound (sweeps.Warn c) is = warn_leaves scheme c bound is
+  sweep_leaves tops scheme bound (sweeps.MakeReady k q) is =
       let other : (ready == status_word q kinds.Retired) ≡ false = (let ne : 4 * setting.first + 0 ≢ 4 * q + 2 = (λ z. omega (arith, z)) in grind (arith, nat_tests)) in
       ap (λ (b : Bool). if b then status_word bound kinds.Ready else ready) other
-  sweep_leaves scheme bound (sweeps.PushLink k q t) is = absurd cc
-  sweep_leaves scheme bound (sweeps.PushTop kind k q t) is = absurd cc
-  sweep_leaves scheme bound _ is = refl
+  sweep_leaves tops scheme bound (sweeps.PushLink k q t) is = absurd cc
+  sweep_leaves tops scheme bound (sweeps.PushTop kind k q t) is = absurd cc
+  sweep_leaves tops scheme bound _ is = refl
 
   -- a claim stores in the status of the slot that it has taken
-  claim_leaves : (k : ℕ) (sweep : Sweep) (stage : ClaimStage) → StageAvoids j stage → Leaves (Some (claim_wants_at k sweep stage))
-  claim_leaves k sweep claims.ReadHead other is = refl
-  claim_leaves k sweep (claims.ReadLink q t) other is = refl
-  claim_leaves k sweep (claims.Take q t next) other is = absurd cc
-  claim_leaves k sweep (claims.StoreUsed q t) other is = absurd (other (same_slot t j is))
-  claim_leaves k sweep (claims.Withdraw own) other is = absurd cc
-  claim_leaves k sweep claims.Sweeps other is = sweep_leaves sweep.scheme sweep.bound sweep.stage is
+  claim_leaves : (tops k : ℕ) (sweep : Sweep) (stage : ClaimStage) → StageAvoids j stage → Leaves (Some (claim_wants_at tops k sweep stage))
+  claim_leaves tops k sweep claims.ReadHead other is = refl
+  claim_leaves tops k sweep (claims.ReadLink q t) other is = refl
+  claim_leaves tops k sweep (claims.Take q t next) other is = absurd cc
+  claim_leaves tops k sweep (claims.StoreUsed q t) other is = absurd (other (same_slot t j is))
+  claim_leaves tops k sweep (claims.Withdraw own) other is = absurd cc
+  claim_leaves tops k sweep claims.Sweeps other is = sweep_leaves tops sweep.scheme sweep.bound sweep.stage is
 
   announcing_leaves : (c : ℕ) (announcing : Announcing) → Leaves (Some (announcing_wanted c announcing))
   announcing_leaves c (announces.Loads why) is = refl
@@ -129,7 +129,7 @@ module _ (target : Target) (setting : Setting) (j : ℕ) where
   leaves_step e (Retires retirement go) a = retire_leaves retirement.slot retirement.stage a
   leaves_step e Restarts a = clear_leaves e.number (restart_next target e)
   leaves_step e (Clears next) a = clear_leaves e.number (clear_next target next e)
-  leaves_step e (Claims claim) a = claim_leaves claim.kind claim.sweep claim.stage a.1
+  leaves_step e (Claims claim) a = claim_leaves claim.sweep.tops claim.kind claim.sweep claim.stage a.1
   leaves_step e (Zeroes k field) a = λ is. absurd cc
   leaves_step e (Announces announcing) a = announcing_leaves e.number announcing
 

@@ -34,28 +34,28 @@ pub record FoundLastPhase (setting : Setting) (p : ℕ) (steps : List StepMade) 
 -- ---- full
 
 -- the step loaded the head of its kind in a look of a claim that has made two sweeps, and found no slot on top
-pub record FindsNoTop (step : StepMade) : Type 0 where
+pub record FindsNoTop (setting : Setting) (step : StepMade) : Type 0 where
   pub claim : Claim
   pub claims : step.entry.routine ≡ Claims claim
   pub sweeps : claim.sweeps ≡ 2
   pub looks : claim.stage ≡ stages.ReadHead
-  pub empty : (head_parts step.found).top ≡ 0
+  pub empty : (head_parts setting.sizes.tops step.found).top ≡ 0
 
 -- the last step did
-abbrev pub EndsInFailedLook : List StepMade → Type 0
-EndsInFailedLook steps = (before : List StepMade) × (step : StepMade) × (steps ≡ before ++ step ∷ []) × FindsNoTop step
+abbrev pub EndsInFailedLook : Setting → List StepMade → Type 0
+EndsInFailedLook setting steps = (before : List StepMade) × (step : StepMade) × (steps ≡ before ++ step ∷ []) × FindsNoTop setting step
 
 -- ---- laws
 
 -- a reply says that phases are over, or that the pool is full, exactly if the steps of its call found so
 pub record IsCaused (setting : Setting) (reply : SourceReply) (steps : List StepMade) : Type 0 where
   pub phases : (p : ℕ) → (reply ≡ replies.Phases p) ↔ FoundLastPhase setting p steps
-  pub full : (reply ≡ replies.Full) ↔ EndsInFailedLook steps
+  pub full : (reply ≡ replies.Full) ↔ EndsInFailedLook setting steps
 
 -- neither was found
 pub record FoundNeither (setting : Setting) (steps : List StepMade) : Type 0 where
   pub phases : (p : ℕ) → FoundLastPhase setting p steps → ⊥
-  pub full : EndsInFailedLook steps → ⊥
+  pub full : EndsInFailedLook setting steps → ⊥
 
 -- in every run each reply of each caller is caused by the steps of its call, and those of a call that still runs have found
 -- neither

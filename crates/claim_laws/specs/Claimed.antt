@@ -13,22 +13,22 @@ use Rattle.core_runs.specs.Machine.{CoreState, CoreEvent, Takes, Steps, core_eve
 use Rattle.claim_laws.specs.CallSteps.{StepMade, steps_by}
 use Rattle.claim_laws.specs.Untouched.{HeldNone, IsUntouched}
 
--- a claim's exchange took the slot on top if it found the head that it expected
-abbrev pub taken_at : ClaimStage → ℕ → List ℕ
-taken_at (claims.Take q t next) found = if found == head_word q t then t ∷ [] else []
-taken_at _ found = []
+-- a claim's exchange took the slot on top if it found the head that it expected, in a row with so many tops
+abbrev pub taken_at : ℕ → ClaimStage → ℕ → List ℕ
+taken_at tops (claims.Take q t next) found = if found == head_word tops q t then t ∷ [] else []
+taken_at tops _ found = []
 
-abbrev pub taken_in : Routine → ℕ → List ℕ
-taken_in (Claims claim) found = taken_at claim.stage found
-taken_in _ found = []
+abbrev pub taken_in : ℕ → Routine → ℕ → List ℕ
+taken_in tops (Claims claim) found = taken_at tops claim.stage found
+taken_in tops _ found = []
 
-abbrev pub slots_taken : StepMade → List ℕ
-slots_taken step = taken_in step.entry.routine step.found
+abbrev pub slots_taken : Setting → StepMade → List ℕ
+slots_taken setting step = taken_in setting.sizes.tops step.entry.routine step.found
 
 -- the slots that the caller c claims by an event in a state
 abbrev pub event_claims : Target → Setting → ℕ → CoreState → CoreEvent → List ℕ
 event_claims target setting c state (Takes k call) = []
-event_claims target setting c state (Steps k) = if k == c then flat_map slots_taken (steps_by target setting state (slice_get state.entries k)) else []
+event_claims target setting c state (Steps k) = if k == c then flat_map (slots_taken setting) (steps_by target setting state (slice_get state.entries k)) else []
 
 abbrev pub claims_on : Option CoreState → (CoreState → List ℕ) → List ℕ
 claims_on None next = []

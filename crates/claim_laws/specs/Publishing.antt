@@ -19,10 +19,11 @@ use Rattle.caller_parts.specs.declared.setting.Reclamation.TheVariants.{Optimist
 use Rattle.caller_parts.specs.Settings.{Setting}
 use Rattle.caller_steps.specs.Entries.{Entry, cradle_of}
 use Rattle.caller_steps.specs.After.{after}
-use Rattle.core_runs.specs.Machine.{CoreState, CoreEvent, Reachable, core_run, core_start}
+use Rattle.core_runs.specs.Machine.{CoreState, CoreEvent, core_run, core_start}
 use Rattle.core_runs.specs.Histories.{calls_of}
 use Rattle.claim_laws.specs.CallSteps.{StepMade, steps_of_call}
 use Rattle.claim_laws.specs.Untouched.{nodes_in}
+use Rattle.claim_laws.specs.Full.{GaveUpAt}
 
 -- how many `new` an operation has: only a generator has any
 abbrev pub news_of : Option TargetOp → ℕ
@@ -61,12 +62,14 @@ abbrev pub new_calls_in : Target → List Entry → ℕ
 new_calls_in target [] = 0
 new_calls_in target (e ∷ entries) = new_calls target (calls_of e) + new_calls_in target entries
 
--- of one kind of the row the initial nodes, and so many others, together are more than the slots
-abbrev pub OverfillAKind : Setting → ℕ → Type 0
-OverfillAKind setting others = (k : ℕ) × (k < length setting.sizes.kinds) × (slots_of setting.sizes k < nodes_in setting k + others)
+-- of the kind of the `new` at which a call with these steps gave up the initial nodes, and so many others, together are more than
+-- the slots
+abbrev pub OverfillItsKind : Setting → ℕ → List StepMade → Type 0
+OverfillItsKind setting others steps = (k : ℕ) × GaveUpAt setting k steps × (k < length setting.sizes.kinds) × (slots_of setting.sizes k < nodes_in setting k + others)
 
--- then, if a caller was told that the pool is full, the initial nodes of one kind and those calls of all callers are more than the
--- slots of this kind
+-- then, if a caller was told that the pool is full, the initial nodes of the kind of the `new` at which its call gave up and those calls
+-- of all callers are more than the slots of this kind
 pub record FullTakesCalls (target : Target) (setting : Setting) : Type 0 where
-  pub each : (state : CoreState) (c i : ℕ) (e : Entry) (replied : Replied) → HasFewNews target → PublishedEnd target setting → Reachable target setting state → slice_get state.entries c ≡ Some e
-      → slice_get e.replies i ≡ Some replied → replied.reply ≡ replies.Full → OverfillAKind setting (new_calls_in target state.entries)
+  pub each : (events : List CoreEvent) (state : CoreState) (c i : ℕ) (e : Entry) (replied : Replied) → HasFewNews target → PublishedEnd target setting
+      → core_run target setting events (core_start target setting) ≡ Some state → slice_get state.entries c ≡ Some e → slice_get e.replies i ≡ Some replied → replied.reply ≡ replies.Full
+      → OverfillItsKind setting (new_calls_in target state.entries) (steps_of_call target setting events c i)

@@ -14,8 +14,8 @@ pub fn replies_are_caused()
     ensures { ForRuns RepliesAreCaused }
 {}
 
-/// Of the same: if a caller was told that the pool is full, there is a kind whose initial nodes, together with the claims of all
-/// callers, are at least its slots.
+/// Of the same: if a caller was told that the pool is full, its call gave up at a `new` of a kind whose initial nodes, together
+/// with the claims of all callers, are at least its slots.
 pub fn full_takes_claims()
     ensures { ForRuns FullTakesClaims }
 {}
@@ -34,8 +34,8 @@ pub fn steps_are_counted()
 {}
 
 /// Of a target that callers may run and a setting that fits it: suppose that no operation has more than one `new`, and that no
-/// call begins again once it has published its node. If a caller was told that the pool is full, there is a kind whose initial
-/// nodes, together with the calls with a `new` of all callers, are more than its slots.
+/// call begins again once it has published its node. If a caller was told that the pool is full, its call gave up at a `new` of
+/// a kind whose initial nodes, together with the calls with a `new` of all callers, are more than its slots.
 pub fn full_takes_calls()
     ensures { ForRuns FullTakesCalls }
 {}

@@ -65,8 +65,8 @@ numbered pair setting e b = b.belongs.number
 pub near : (pair : Paired) (setting : Setting) (e : Entry) → MayRun pair → IsSetting setting → BelongsTo pair setting e → e.hand.at < 2 ^ 62
 near pair setting e sound own b = (fits_code pair.target pair.source setting sound own b.fits).near e b.belongs
 
-pub slots : (pair : Paired) (setting : Setting) (e : Entry) → MayRun pair → IsSetting setting → BelongsTo pair setting e → AreSlots e.hand.registers
-slots pair setting e sound own b = ((fits_code pair.target pair.source setting sound own b.fits).slots e b.belongs).0
+pub slots : (pair : Paired) (setting : Setting) (e : Entry) → MayRun pair → IsSetting setting → setting.sizes.slots < 2 ^ 32 → BelongsTo pair setting e → AreSlots e.hand.registers
+slots pair setting e sound own few b = ((fits_code pair.target pair.source setting sound own b.fits).slots few e b.belongs).0
 
 pub keeps : (pair : Paired) (setting : Setting) (e : Entry) (word : ℕ) → MayRun pair → IsSetting setting → BelongsTo pair setting e
     → MayBeTold pair.target setting (wants pair.target e) word → BelongsTo pair setting (after pair.target setting e word)

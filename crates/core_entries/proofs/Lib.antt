@@ -1,5 +1,6 @@
 mod Calling
 pub mod Stepping
+mod Running
 mod Counted
 mod SignNames
 mod StepsTold

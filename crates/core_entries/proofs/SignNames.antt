@@ -250,7 +250,7 @@ module _ (target : Target) (setting : Setting) (e : Entry) (word : ℕ) where
   by Restarts = tells_none _ _ (again_owes target setting.sizes word (restart_after target e) (with_hand (counted e) (unguarded (restart_next target e) e.hand))
       ∙ ap owes (same_after target e (restart_next target e) (restart_after target e)))
   by (Clears next) = refl
-  by (Claims claim) = claim_is target setting.sizes word scheme (claim_accepts setting.sizes setting.last claim word).claim (claim_accepts setting.sizes setting.last claim word).ended (claim_counted (claim_takes claim word) (counted e))
+  by (Claims claim) = claim_is target setting.sizes word scheme (claim_accepts setting.sizes setting.last claim word).claim (claim_accepts setting.sizes setting.last claim word).ended (claim_counted (claim_takes setting.sizes claim word) (counted e))
   by (Zeroes k field) = zeroed_is target setting.sizes word scheme k field (counted e) _ refl
   by (Announces announcing) = announced_is target setting.sizes word announcing (counted e)
 

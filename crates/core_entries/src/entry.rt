@@ -125,6 +125,7 @@ impl Entry {
     {
         setting.kept();
         loaded.kept();
+        setting.limits();
         self.state.pending(&loaded.program(), setting)
     }
 
@@ -137,6 +138,7 @@ impl Entry {
     {
         setting.kept();
         runs.kept();
+        setting.limits();
         let ready = Ready::new(runs);
         self.state.pending(&ready.program(), setting)
     }
@@ -157,6 +159,7 @@ impl Entry {
     {
         setting.kept();
         barred.kept();
+        setting.limits();
         self.state.pending(program, setting)
     }
 
@@ -195,6 +198,7 @@ impl Entry {
     {
         setting.kept();
         barred.kept();
+        setting.limits();
         self.state.pending_at(program, setting, instr)
     }
 
@@ -222,6 +226,7 @@ impl Entry {
     {
         setting.kept();
         loaded.kept();
+        setting.limits();
         self.state.accept(&loaded.program(), setting, word);
     }
 
@@ -235,6 +240,7 @@ impl Entry {
     {
         setting.kept();
         runs.kept();
+        setting.limits();
         let ready = Ready::new(runs);
         self.state.accept(&ready.program(), setting, word);
     }
@@ -257,6 +263,7 @@ impl Entry {
     {
         setting.kept();
         barred.kept();
+        setting.limits();
         self.state.accept(program, setting, word);
     }
 
@@ -283,6 +290,7 @@ impl Entry {
     {
         setting.kept();
         barred.kept();
+        setting.limits();
         self.state.accept_at(program, setting, code, instr, word);
     }
 
@@ -314,6 +322,7 @@ impl Entry {
     {
         setting.kept();
         barred.kept();
+        setting.limits();
         signs_after(&self.state, program, setting, word)
     }
 
@@ -369,6 +378,13 @@ impl Entry {
         ensures { result ≡ is_spent fuel self.now.core }
     {
         !self.is_idle() && fuel <= self.state.running.steps
+    }
+
+    /// How many steps are left of so many for the call that runs.
+    pub fn steps_left(&self, fuel: u64) -> u64
+        ensures { result ≡ fuel - self.now.core.running.steps }
+    {
+        fuel.saturating_sub(self.state.running.steps)
     }
 
     /// Whether a check is the instruction at which the method stands.

@@ -5,7 +5,7 @@ ghost use Rattle.caller_parts.specs.Codes.{code_shown, shown_at};
 ghost use Rattle.caller_steps.specs.Entries.{is_idle, code_in, instr_in};
 ghost use Rattle.caller_parts.specs.declared.routine.Routine.TheVariants.{At};
 ghost use Rattle.core_entries.specs.Callers.{BelongsTo};
-ghost use Rattle.core_entries.specs.Steps.{WordsSound, StepIs};
+ghost use Rattle.core_entries.specs.Steps.{WordsSound, StepIs, RunIs};
 ghost use Rattle.core_entries.specs.StepSigns.{signs_told};
 
 use crate::entry::Entry;
@@ -37,6 +37,32 @@ pub fn step_on(
         None => step_apart(entry, words, barred, program, setting),
         Some(code) => step_at(entry, words, barred, program, setting, code),
     }
+}
+
+/// Steps of a caller up to the end of its call, and so many at most. It answers how many of these are left. One that is idle makes none.
+/// The program of the target was made once for many steps.
+#[inline(never)]
+pub fn run_on(
+    entry: &mut Entry,
+    words: &mut PlainWords,
+    barred: &Barred,
+    program: &Program,
+    setting: &Setting,
+    most: u64,
+) -> u64
+    requires program { program.now ≡ barred.now.target }
+    requires belongs { BelongsTo barred.now setting.now entry.old.core }
+    requires lawful { WordsSound barred.now.target setting.now words.old }
+    ensures ran { RunIs barred.now.target setting.now most result words.old words.new entry.old entry.new }
+    ensures belongs { BelongsTo barred.now setting.now entry.new.core }
+    ensures lawful { WordsSound barred.now.target setting.now words.new }
+{
+    let mut left = most;
+    'steps: while left > 0 && !entry.is_idle() {
+        step_on(entry, words, barred, program, setting);
+        left -= 1;
+    }
+    left
 }
 
 /// A step at an access of the method, whose code is given. That of a check is known where it is made.

@@ -8,7 +8,7 @@ use Rattle.target_code.specs.declared.target.Target.{Target}
 use Rattle.oa_words.specs.Words.{Sizes}
 use Rattle.oa_words.specs.SlotKinds.{sum_before, kind_in, slots_of, first_of, range_of, kind_of}
 use Rattle.oa_words.specs.Starts.{start_node}
-use Rattle.oa_words.specs.Within.{AreSizes, AreKinds}
+use Rattle.oa_words.specs.Within.{AreSizes, AreSmall, AreKinds}
 use Rattle.oa_words.proofs.Counts.{ends_at_last, ends_within}
 use Rattle.oa_words.proofs.KindRanges.{part_within, parts_follow, of_kind_is_in_range}
 use Rattle.caller_parts.specs.Settings.{Setting}
@@ -33,11 +33,11 @@ first_none n = let none = none_before n.kinds in omega (arith, none)
 pub first_more : (n : Sizes) (t first slots : ℕ) → first ≡ first_of n t → slots ≡ slots_of n t → first + slots ≡ first_of n (t + 1)
 first_more n t first slots was is = let more = one_more n.kinds t in omega (arith, was, is, more)
 
-pub first_few : (n : Sizes) (t : ℕ) → AreSizes n → first_of n t ≤ 4097
-first_few n t are =
+pub first_few : (n : Sizes) (t : ℕ) → AreSizes n → AreSmall n → first_of n t ≤ 4097
+first_few n t are small =
     let part = part_within n.kinds t in
-    let whole = are.8.whole in
-    let most = are.3 in omega (arith, part, whole, most)
+    let whole = are.kinds.whole in
+    let most = small.slots in omega (arith, part, whole, most)
 
 past_all : (counts : List ℕ) (t : ℕ) → sum_before counts (min t (length counts)) ≡ sum_before counts t
 past_all [] zero = refl
@@ -52,7 +52,7 @@ pub first_whole : (n : Sizes) (t first : ℕ) → first ≡ first_of n (min t (l
 first_whole n t first is = is ∙ ap (λ (s : ℕ). 1 + s) (past_all n.kinds t)
 
 pub last_few : (n : Sizes) (t : ℕ) → AreSizes n → (range_of n t).last ≤ n.slots
-last_few n t are = let part = part_within n.kinds t in let whole = are.8.whole in omega (arith, part, whole)
+last_few n t are = let part = part_within n.kinds t in let whole = are.kinds.whole in omega (arith, part, whole)
 
 -- ---- the kind of a slot
 

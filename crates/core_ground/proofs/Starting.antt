@@ -1,11 +1,16 @@
 -- Putting the words at the start in order.
-use Rattle.std.proofs.Common.{◌≡◌, ℕ, zero, suc, ◌+◌, ◌-◌, ◌*◌, ◌<◌, List, [], ◌∷◌, ◌++◌, map, replicate, length, refl, sym, ap, ◌∙◌, arith}
+use Rattle.std.proofs.Common.{◌≡◌, ℕ, zero, suc, ◌+◌, ◌-◌, ◌*◌, ◌<◌, List, [], ◌∷◌, ◌++◌, map, replicate, length, refl, sym, ap, ◌∙◌, subst, arith}
 use Rattle.std.proofs.lemmas.List.{append_assoc}
 use Rattle.target_code.specs.declared.target.Target.{Target}
 use Rattle.oa_words.specs.Words.{Sizes, slot_rows}
 use Rattle.oa_words.specs.Starts.{Beginning, start_node, start_row, status_at_start, link_at_start, start_head, start_statuses, start_rows, start_heads, start_links, start_words, first_home}
-use Rattle.caller_parts.specs.Settings.{Setting, Fits, first_warning}
+use Rattle.barrier_check.specs.Paired.{Paired}
+use Rattle.caller_parts.specs.Settings.{Setting, Fits, IsSetting, first_warning}
 use Rattle.core_runs.specs.Machine.{node_words, root_word, core_start}
+use Rattle.core_runs.specs.core_sound.Sound.{AreLawful}
+use Rattle.core_runs.proofs.Reaching.{starts}
+use Rattle.core_runs.proofs.core_sound.Reached.{states_are_sound}
+use Rattle.core_ground.specs.Running.{MayRun}
 use Rattle.core_ground.specs.Starts.{home_in, start_of, bare_start, caller_words, pool_words, slot_words}
 
 -- ---- one more is put
@@ -98,3 +103,9 @@ module _ (target : Target) (setting : Setting) where
   words_put callers slots whole fits one other last =
       last ∙ ap (λ (l : List ℕ). l ++ pool_words setting) (other ∙ ap (λ (l : List ℕ). l ++ slot_words target setting) one) ∙ append_assoc (caller_words setting) (slot_words target setting) (pool_words setting)
       ∙ (parts_together ∙ ap (λ (counts : List ℕ). start_words n (start_by counts)) fits.nodes)
+
+-- ---- and each is lawful
+
+pub words_lawful : (pair : Paired) (setting : Setting) (words : List ℕ) → MayRun pair → IsSetting setting → Fits pair.target setting → words ≡ (core_start pair.target setting).words → AreLawful pair.target setting words
+words_lawful pair setting words runs own fits is =
+    subst (AreLawful pair.target setting) (sym is) (states_are_sound pair.target pair.source setting (core_start pair.target setting) runs own fits (starts pair.target setting)).lawful

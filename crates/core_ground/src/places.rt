@@ -18,6 +18,7 @@ fn first_of(setting: &Setting, kind: u32) -> u32
     ensures few { result ≤ 4097 }
 {
     setting.kept();
+    setting.limits();
     let shape = setting.shape();
     let mut first = 1;
     for before in 0..kind.min(shape.kinds()) {
@@ -34,6 +35,7 @@ fn last_of(setting: &Setting, kind: u32) -> u32
     ensures few { result ≤ setting.now.sizes.slots }
 {
     setting.kept();
+    setting.limits();
     first_of(setting, kind) - 1 + setting.shape().slots_of(kind)
 }
 
@@ -95,6 +97,7 @@ pub(crate) fn slot_or_none(setting: &Setting, kind: u32, slot: u64) -> u32
     ensures few { result ≤ 4096 }
 {
     setting.kept();
+    setting.limits();
     if slot <= last_of(setting, kind) as u64 {
         slot as u32
     } else {

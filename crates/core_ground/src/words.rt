@@ -5,6 +5,7 @@ ghost use Rattle.oa_words.specs.Starts.{status_at_start, link_at_start, start_he
 ghost use Rattle.oa_words.specs.Words.{slot_rows};
 ghost use Rattle.caller_parts.specs.Settings.{Fits, first_warning};
 ghost use Rattle.core_runs.specs.Machine.{value_word, root_word, core_start};
+ghost use Rattle.core_runs.specs.core_sound.Sound.{AreLawful};
 ghost use Rattle.core_ground.specs.Running.{pair_of};
 ghost use Rattle.core_ground.specs.Starts.{home_in, bare_start, start_of, node_row, caller_words, pool_words, slot_words};
 
@@ -232,13 +233,14 @@ fn put_slots(words: &mut Listed<u64>, runs: Runs, setting: &Setting) -> Result<(
 
 impl PlainWords {
     /// The words at the start, in the order of their addresses: the phase, places, warnings, hazards, statuses, fields,
-    /// cells, the heads and the links. The setting fits the target.
+    /// cells, the heads and the links. Each is lawful for its address. The setting fits the target.
     ///
     /// # Errors
     /// Memory ran out.
     pub fn new(alloc: Global, barred: &Barred, setting: &Setting) -> Result<PlainWords, AllocError>
         requires { Fits barred.now.target setting.now }
-        ensures { IfOk result (λ words. words ≡ (core_start barred.now.target setting.now).words) }
+        ensures start { IfOk result (λ words. words ≡ (core_start barred.now.target setting.now).words) }
+        ensures lawful { IfOk result (λ words. AreLawful barred.now.target setting.now words) }
     {
         PlainWords::of(alloc, Runs::Barred(barred), setting)
     }
@@ -250,9 +252,11 @@ impl PlainWords {
     #[tactic(auto, using(crate::proofs::Starting::words_put))]
     pub fn of(alloc: Global, runs: Runs, setting: &Setting) -> Result<PlainWords, AllocError>
         requires { Fits (pair_of runs).target setting.now }
-        ensures { IfOk result (λ words. words ≡ (core_start (pair_of runs.entry).target setting.now).words) }
+        ensures start { IfOk result (λ words. words ≡ (core_start (pair_of runs.entry).target setting.now).words) }
+        ensures lawful { IfOk result (λ words. AreLawful (pair_of runs.entry).target setting.now words) }
     {
         setting.kept();
+        runs.kept();
         let mut words = Listed::empty(alloc);
         put_callers(&mut words, setting)?;
         put_slots(&mut words, runs, setting)?;

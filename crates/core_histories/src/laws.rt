@@ -23,7 +23,7 @@ pub fn set_answers(buckets: u32, barred: &Barred, setting: &Setting)
 {
     oa_simulation::laws::refines(barred, setting);
     set_source::laws::set_is_proper();
-    set_laws::laws::set_answers();
+    set_laws::laws::source_sets_answer();
 }
 
 /// The same of a compiled queue.
@@ -35,5 +35,5 @@ pub fn queue_answers(barred: &Barred, setting: &Setting)
 {
     oa_simulation::laws::refines(barred, setting);
     queue_source::laws::queue_is_proper();
-    queue_laws::laws::queue_answers();
+    queue_laws::laws::source_queues_answer();
 }

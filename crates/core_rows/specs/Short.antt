@@ -68,7 +68,7 @@ call_of op argument = record { op = op; args = argument ∷ 0 ∷ 0 ∷ 0 ∷ []
 -- is optimistic
 abbrev pub setting_of : ℕ → ℕ → ℕ → ℕ → ℕ → ℕ → Setting
 setting_of callers slots fields roots nodes last =
-    record { reclamation = Optimistic; sizes = record { callers = callers; slots = slots; fields = fields; cells = roots; kinds = slots ∷ [] }; first = 1; last = last; nodes = nodes ∷ 0 ∷ 0 ∷ 0 ∷ [] }
+    record { reclamation = Optimistic; sizes = record { callers = callers; slots = slots; fields = fields; cells = roots; kinds = slots ∷ []; tops = 8192 }; first = 1; last = last; nodes = nodes ∷ 0 ∷ 0 ∷ 0 ∷ [] }
 
 -- the cradles of the first kind, four of them; those of other kinds hold no slot
 abbrev pub cradles_of : ℕ → ℕ → ℕ → ℕ → List ℕ

@@ -43,7 +43,7 @@ three_kinds = record {
 
 -- so many slots of each kind, three fields in each, and these counts of initial nodes
 abbrev pub told : List ℕ → List ℕ → Setting
-told slots nodes = record { reclamation = Optimistic; sizes = record { callers = 1; slots = 6; fields = 3; cells = 2; kinds = slots }; first = 1; last = 9; nodes = nodes }
+told slots nodes = record { reclamation = Optimistic; sizes = record { callers = 1; slots = 6; fields = 3; cells = 2; kinds = slots; tops = 8192 }; first = 1; last = 9; nodes = nodes }
 
 -- slots 1 and 2 are for the first kind, 3 to 5 for the second, and 6 for the third
 abbrev pub three_setting : Setting

@@ -79,7 +79,7 @@ set_target = record {
 abbrev pub set_setting : ℕ → ℕ → ℕ → Setting
 set_setting callers items pairs = record {
   reclamation = Optimistic;
-  sizes = record { callers = callers; slots = items + pairs; fields = 2; cells = 2; kinds = items ∷ pairs ∷ [] };
+  sizes = record { callers = callers; slots = items + pairs; fields = 2; cells = 2; kinds = items ∷ pairs ∷ []; tops = 8192 };
   first = 1;
   last = 1000000000;
   nodes = 0 ∷ 0 ∷ 0 ∷ 0 ∷ [];
@@ -109,7 +109,7 @@ meeting_target = record {
 
 -- one caller; four slots for items, 1 to 4, and three for pairs, 5 to 7. A slot has three fields, as many as a pair
 abbrev pub meeting_sizes : Sizes
-meeting_sizes = record { callers = 1; slots = 7; fields = 3; cells = 2; kinds = 4 ∷ 3 ∷ [] }
+meeting_sizes = record { callers = 1; slots = 7; fields = 3; cells = 2; kinds = 4 ∷ 3 ∷ []; tops = 8192 }
 
 abbrev pub meeting_setting : Setting
 meeting_setting = record { reclamation = Optimistic; sizes = meeting_sizes; first = 1; last = 1000; nodes = 2 ∷ 1 ∷ 0 ∷ 0 ∷ [] }

@@ -62,8 +62,8 @@ begun_no_slot claim head = of (head.top == 0) where
   of true = ended_no_slot claim
   of false = tt
 
-took_no_slot : (claim : Claim) (q t word : ℕ) → NoSlot (look_took claim q t word).ended
-took_no_slot claim q t word = of (word == head_word q t) where
+took_no_slot : (n : Sizes) (claim : Claim) (q t word : ℕ) → NoSlot (look_took n claim q t word).ended
+took_no_slot n claim q t word = of (word == head_word n.tops q t) where
   of : (b : Bool) → NoSlot (if b then claim_goes claim (claims.StoreUsed q t) else claim_goes claim claims.ReadHead).ended
   of true = tt
   of false = tt
@@ -94,9 +94,9 @@ slot_leaves target claim made j e is = subst (λ (n : ℕ). Leaves (has_swept ma
 
 claim_leaves : (target : Target) (n : Sizes) (last : ℕ) (claim : Claim) (word : ℕ) (stage : ClaimStage) (e : Entry)
     → let turn = claim_accepts_at n last claim word stage in Leaves (is_last_store stage && has_swept claim.sweeps) e (claim_on Epochs target turn.claim turn.ended e).entry
-claim_leaves target n last claim word claims.ReadHead e = let turn = look_begun claim (head_parts word) in none_leaves target turn.claim turn.ended e (begun_no_slot claim (head_parts word))
+claim_leaves target n last claim word claims.ReadHead e = let turn = look_begun claim (head_parts n.tops word) in none_leaves target turn.claim turn.ended e (begun_no_slot claim (head_parts n.tops word))
 claim_leaves target n last claim word (claims.ReadLink q t) e = none_leaves target (record claim { stage = claims.Take q t word }) None e tt
-claim_leaves target n last claim word (claims.Take q t next) e = let turn = look_took claim q t word in none_leaves target turn.claim turn.ended e (took_no_slot claim q t word)
+claim_leaves target n last claim word (claims.Take q t next) e = let turn = look_took n claim q t word in none_leaves target turn.claim turn.ended e (took_no_slot n claim q t word)
 claim_leaves target n last claim word (claims.StoreUsed q t) e = slot_leaves target claim claim.sweeps t e refl
 claim_leaves target n last claim word (claims.Withdraw own) e = let turn = claim_accepts_at n last claim word (claims.Withdraw own) in none_leaves target turn.claim None e tt
 claim_leaves target n last claim word claims.Sweeps e =
@@ -174,8 +174,8 @@ counted_leaves more takes e later l = record { restarts = l.restarts; there = l.
 
 step_leaves : (target : Target) (setting : Setting) (word : ℕ) (e : Entry) (routine : Routine) → e.routine ≡ routine → Leaves (ends_swept routine) e (accepted Epochs target setting word e routine).entry
 step_leaves target setting word e (Claims claim) is =
-    counted_leaves (ends_swept (Claims claim)) (claim_takes claim word) e (accepted Epochs target setting word e (Claims claim)).entry
-    (claim_leaves target setting.sizes setting.last claim word claim.stage (claim_counted (claim_takes claim word) e))
+    counted_leaves (ends_swept (Claims claim)) (claim_takes setting.sizes claim word) e (accepted Epochs target setting word e (Claims claim)).entry
+    (claim_leaves target setting.sizes setting.last claim word claim.stage (claim_counted (claim_takes setting.sizes claim word) e))
 step_leaves target setting word e routine is = other_leaves target setting word e routine is (λ claim no. cc)
 
 after_leaves : (target : Target) (setting : Setting) → setting.reclamation ≡ Epochs → (e : Entry) (word : ℕ) → Leaves (ends_swept e.routine) e (after target setting e word)

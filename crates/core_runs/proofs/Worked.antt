@@ -56,7 +56,7 @@ counter = record {
 }
 
 setting : Setting
-setting = record { reclamation = Optimistic; sizes = record { callers = 1; slots = 1; fields = 1; cells = 1; kinds = 1 ∷ [] }; first = 1; last = 9; nodes = 0 ∷ 0 ∷ 0 ∷ 0 ∷ [] }
+setting = record { reclamation = Optimistic; sizes = record { callers = 1; slots = 1; fields = 1; cells = 1; kinds = 1 ∷ []; tops = 8192 }; first = 1; last = 9; nodes = 0 ∷ 0 ∷ 0 ∷ 0 ∷ [] }
 
 add_five : Call
 add_five = record { op = 0; args = 5 ∷ 0 ∷ 0 ∷ 0 ∷ [] }

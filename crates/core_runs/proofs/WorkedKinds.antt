@@ -52,7 +52,7 @@ two_kinds = record {
 
 -- two slots for items, and three for pairs: items stand in slots 1 and 2, pairs in 3 to 5
 setting : Setting
-setting = record { reclamation = Optimistic; sizes = record { callers = 1; slots = 5; fields = 2; cells = 2; kinds = 2 ∷ 3 ∷ [] }; first = 1; last = 9; nodes = 1 ∷ 1 ∷ 0 ∷ 0 ∷ [] }
+setting = record { reclamation = Optimistic; sizes = record { callers = 1; slots = 5; fields = 2; cells = 2; kinds = 2 ∷ 3 ∷ []; tops = 8192 }; first = 1; last = 9; nodes = 1 ∷ 1 ∷ 0 ∷ 0 ∷ [] }
 
 words_of : Option CoreState → List ℕ
 words_of None = []

@@ -17,9 +17,10 @@ use Rattle.caller_steps.specs.Belongs.{scheme_of}
 use Rattle.core_runs.specs.Machine.{CoreState, CoreEvent, Takes, Steps, core_event, core_run, core_start}
 
 -- a caller's claim goes by the scheme of the setting: its sweeps warn the callers, or load what they have announced, and the caller
--- withdraws the announcement that is its own
+-- withdraws the announcement that is its own. Its heads are those of the row
 pub record ClaimsFollowSetting (target : Target) (setting : Setting) (state : CoreState) : Type 0 where
   pub each : (c : ℕ) (e : Entry) (claim : Claim) → slice_get state.entries c ≡ Some e → e.routine ≡ Claims claim → claim.sweep.scheme ≡ scheme_of setting.reclamation c
+  pub tops : (c : ℕ) (e : Entry) (claim : Claim) → slice_get state.entries c ≡ Some e → e.routine ≡ Claims claim → claim.sweep.tops ≡ setting.sizes.tops
 
 -- before the store of the status of the slot that it has taken
 abbrev pub is_last_store : ClaimStage → Bool

@@ -37,7 +37,7 @@ abbrev pub at_check : ℕ → ℕ → Entry
 at_check steps restarts = counted_entry steps restarts 0 1 At
 
 abbrev pub at_take : ℕ → Entry
-at_take claims = counted_entry 0 0 claims 2 (Claims (record { kind = 0; stage = stages.Take 1 2 0; sweeps = 0; sweep = sweep_begun Warned }))
+at_take claims = counted_entry 0 0 claims 2 (Claims (record { kind = 0; stage = stages.Take 1 2 0; sweeps = 0; sweep = sweep_begun 8192 Warned }))
 
 abbrev pub told : Entry → ℕ → Entry
 told e word = after swap_target counting_setting e word
@@ -61,11 +61,11 @@ pub record CountRows : Type 0 where
 
 -- one caller and three slots
 abbrev pub three_slots : Sizes
-three_slots = record { callers = 1; slots = 3; fields = 1; cells = 1; kinds = 3 ∷ [] }
+three_slots = record { callers = 1; slots = 3; fields = 1; cells = 1; kinds = 3 ∷ []; tops = 8192 }
 
 -- a sweep whose s is 2, which has gathered slot 3, and comes to a status
 abbrev pub second_sweep : SweepStage → Sweep
-second_sweep stage = record { scheme = Warned; stage = stage; bound = 2; low = 2; gathered = 3 ∷ [] }
+second_sweep stage = record { scheme = Warned; tops = 8192; stage = stage; bound = 2; low = 2; gathered = 3 ∷ [] }
 
 abbrev pub meets : ℕ → ℕ → SweepTurn
 meets slot word = sweep_accepts three_slots 1000 (second_sweep (sweeps.ReadStatus slot)) word

@@ -9,7 +9,7 @@ use Rattle.corner_rows.specs.CornerTargets.{unlink_target}
 
 -- three callers, two slots, two fields and two roots
 abbrev pub three_callers : Sizes
-three_callers = record { callers = 3; slots = 2; fields = 2; cells = 2; kinds = 2 ∷ [] }
+three_callers = record { callers = 3; slots = 2; fields = 2; cells = 2; kinds = 2 ∷ []; tops = 8192 }
 
 -- 1 phase, 3 places, 3 warnings, 24 hazards, 3 statuses, 6 fields, 2 roots, the head and 3 links
 pub record AddressRows : Type 0 where

@@ -1,11 +1,11 @@
 -- What a document's run under epochs answers.
 use Rattle.std.specs.Prelude.{◌≡◌, ℕ, List, Result, Ok, Err}
 use Rattle.target_code.specs.Bare.{bare}
-use Rattle.caller_steps.specs.Entries.{RoomyEntry}
+use Rattle.caller_parts.specs.declared.call.Call.{Call}
 use Rattle.core_runs.specs.Machine.{CoreState, CoreEvent}
 use Rattle.core_runs.specs.Scripts.{IsCompleteRun}
 use Rattle.core_ground.specs.Running.{bare_pair}
-use Rattle.thread_runs.specs.Whole.{IsFinalOf}
+use Rattle.thread_runs.specs.Whole.{ReadyShown, IsReadyFor}
 use Rattle.documents.specs.declared.document.Document.{Document}
 use Rattle.script_plans.specs.declared.fault.RunFault.{RunFault}
 use Rattle.script_plans.specs.declared.epoch_plan.EpochPlan.{EpochPlan}
@@ -25,6 +25,9 @@ IsEpochRan document (Ok report) =
     IsRunnable document × (events : List CoreEvent) × (state : CoreState) × IsCompleteEpochRunOf document events state × (report ≡ report_of document state)
 IsEpochRan document (Err fault) = IsFaultOf document fault
 
--- a complete run of the plan ends at this phase with these entries
-abbrev pub EndsEpochPlan : EpochPlan → ℕ → List RoomyEntry → Type 0
-EndsEpochPlan plan phase entries = IsFinalOf (record { target = bare_pair plan.normal; setting = plan.setting }) plan.scripts plan.fuel phase entries
+-- callers that are ready run the plan
+pub record IsReadyEpochPlan (plan : EpochPlan) (callers : ReadyShown) (scripts : List (List Call)) (fuel : ℕ) : Type 0 where
+  pub fixed : callers.fixed ≡ record { target = bare_pair plan.normal; setting = plan.setting }
+  pub scripts_are : scripts ≡ plan.scripts
+  pub fuel_is : fuel ≡ plan.fuel
+  pub ready : IsReadyFor scripts callers

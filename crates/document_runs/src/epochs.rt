@@ -3,30 +3,29 @@
 ghost use Rattle.std.specs.Prelude.{◌≡◌, Ok, IfOk};
 ghost use Rattle.documents.specs.DocumentLimits.{IsWithinDocumentLimits};
 ghost use Rattle.script_plans.specs.EpochPlans.{IsEpochPlanned, IsEpochReady};
-ghost use Rattle.document_runs.specs.Epochs.{IsEpochRan, EndsEpochPlan};
+ghost use Rattle.document_runs.specs.Epochs.{IsEpochRan, IsReadyEpochPlan};
 ghost use Rattle.document_runs.specs.Reports.{all_lines};
 ghost use Rattle.document_runs.specs.Blanks.{no_answer};
 
-use crate::building::{blank_lines, report_at};
+use crate::building::blank_lines;
+use crate::ready::{ReadyRun, run_ready, told};
 use crate::report::{Report, ReportLine};
 use documents::Document;
 use oa_text::Gate;
 use script_plans::{EpochPlan, RunFault, epoch_plan_of};
 use std::alloc::{AllocError, Global};
 use std::thread::Threads;
-use thread_runs::run_bare;
-use word_runner::Final;
+use thread_runs::ReadyCallers;
 
-/// Runs a plan by its callers on threads.
+/// Takes the memory for the callers of a plan, and keeps what they call.
 #[tactic(auto, using(crate::proofs::EpochLaws::plan_suits))]
-fn run_plan<R: Threads + Sync, G: Gate + Sync>(
-    rt: &R,
+fn ready_plan(
     alloc: Global,
     plan: EpochPlan,
-    gate: &G,
-) -> Result<Final, AllocError>
+    lines: Vec<ReportLine>,
+) -> Result<ReadyRun, AllocError>
     requires ready { IsEpochReady plan }
-    ensures { IfOk result (λ last. EndsEpochPlan plan last.phase last.entries) }
+    ensures { IfOk result (λ r. IsReadyEpochPlan plan r.callers r.scripts r.fuel × (r.lines.items ≡ lines.items)) }
 {
     let EpochPlan {
         normal,
@@ -34,26 +33,30 @@ fn run_plan<R: Threads + Sync, G: Gate + Sync>(
         scripts,
         fuel,
     } = plan;
-    run_bare(rt, alloc, normal, setting, scripts.items(), fuel, gate)
+    match ReadyCallers::bare(alloc, normal, setting, scripts.items()) {
+        Ok(callers) => Ok(ReadyRun {
+            callers,
+            scripts,
+            fuel,
+            lines,
+        }),
+        Err(error) => Err(error),
+    }
 }
 
-/// Runs a plan, and tells its end in lines that were made for its document.
-fn run_lines<R: Threads + Sync, G: Gate + Sync>(
-    rt: &R,
-    alloc: Global,
-    document: &Document,
-    plan: EpochPlan,
-    lines: Vec<ReportLine>,
-    gate: &G,
-) -> Result<Report, RunFault>
+/// Takes the memory for the run of a document's plan, and for its report.
+fn ready_run(alloc: Global, document: &Document, plan: EpochPlan) -> Result<ReadyRun, AllocError>
+    requires within { IsWithinDocumentLimits document.now }
     requires planned { IsEpochPlanned document.now (Ok plan) }
     requires ready { IsEpochReady plan }
-    requires blank { lines.items ≡ all_lines no_answer 0 document.now.scripts }
-    ensures { IsEpochRan document.now result }
+    ensures { IfOk result (λ r. IsReadyEpochPlan plan r.callers r.scripts r.fuel × (r.lines.items ≡ all_lines no_answer 0 document.now.scripts)) }
 {
-    match run_plan(rt, alloc, plan, gate) {
-        Ok(last) => Ok(report_at(document, lines, &last)),
-        Err(_) => Err(RunFault::Memory),
+    match blank_lines(alloc, document.scripts.items()) {
+        Ok(lines) => ready_plan(alloc, plan, lines),
+        Err(error) => {
+            drop(plan);
+            Err(error)
+        }
     }
 }
 
@@ -70,12 +73,9 @@ fn run_planned<R: Threads + Sync, G: Gate + Sync>(
     requires ready { IsEpochReady plan }
     ensures { IsEpochRan document.now result }
 {
-    match blank_lines(alloc, document.scripts.items()) {
-        Ok(lines) => run_lines(rt, alloc, document, plan, lines, gate),
-        Err(_) => {
-            drop(plan);
-            Err(RunFault::Memory)
-        }
+    match ready_run(alloc, document, plan) {
+        Ok(ready) => told(run_ready(rt, document, ready, gate)),
+        Err(_) => Err(RunFault::Memory),
     }
 }
 

@@ -5,6 +5,7 @@
 mod building;
 mod epochs;
 mod printing;
+mod ready;
 mod report;
 mod running;
 mod stopping;

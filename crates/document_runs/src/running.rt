@@ -2,83 +2,119 @@
 
 ghost use Rattle.std.specs.Prelude.{◌≡◌, Ok, IfOk};
 ghost use Rattle.documents.specs.DocumentLimits.{IsWithinDocumentLimits};
-ghost use Rattle.oa_core.specs.Finals.{AnswersReplay};
+ghost use Rattle.core_runs.specs.Replays.{replayed};
+ghost use Rattle.oa_core.specs.Shown.{replay_by, terms_of};
 ghost use Rattle.script_plans.specs.Plans.{IsPlanned, IsReady};
 ghost use Rattle.document_runs.specs.Runs.{IsRan, IsReplayed};
 ghost use Rattle.document_runs.specs.Reports.{all_lines};
 ghost use Rattle.document_runs.specs.Blanks.{no_answer};
-ghost use Rattle.document_runs.specs.PlanRuns.{fault_of, plan_replayed, EndsPlan};
+ghost use Rattle.document_runs.specs.PlanRuns.{fault_of, answer_of, ReportsTurns, IsReadyPlan};
 
-use crate::building::{blank_lines, report_at, report_of};
+use crate::building::{blank_lines, report_of};
+use crate::ready::{ReadyRun, run_ready, told};
 use crate::report::{Report, ReportLine};
+use core_ground::Prepared;
 use documents::Document;
-use oa_core::{CoreState, ReplayError, replay};
+use oa_core::{ReadyReplay, Stop};
 use oa_text::Gate;
 use script_plans::{Plan, RunFault, plan_of};
 use std::alloc::{AllocError, Global};
 use std::thread::Threads;
-use thread_runs::run_scripts;
-use word_runner::Final;
+use thread_runs::ReadyCallers;
 
-/// What a refused replay is told as: the numbers 10 and 11, with the steps made.
-fn fault_of(error: ReplayError) -> RunFault
-    ensures { result ≡ fault_of error }
+/// What a replay that stops is told as: the numbers 10 and 11, with the steps made.
+fn fault_of(stop: Stop) -> RunFault
+    ensures { result ≡ fault_of stop }
 {
-    match error {
-        ReplayError::Memory => RunFault::Memory,
-        ReplayError::StepOfNobody { steps } => RunFault::Shape {
+    match stop {
+        Stop::StepOfNobody { steps } => RunFault::Shape {
             number: 10,
             at: steps,
         },
-        ReplayError::LongReplay { steps } => RunFault::Shape {
+        Stop::LongReplay { steps } => RunFault::Shape {
             number: 11,
             at: steps,
         },
     }
 }
 
-/// Replays a plan by the turns of a document's schedule.
-fn replay_plan(alloc: Global, plan: &Plan, document: &Document) -> Result<CoreState, ReplayError>
-    requires { IsReady plan.now }
-    ensures { AnswersReplay result plan.now.fuel (plan_replayed plan.now document.now.schedule) }
+/// A replay of a document that is ready to be made, beside the lines of its report. It holds all the memory that both need.
+#[derive(Drop)]
+struct ReadyReport<'a> {
+    replay: ReadyReplay<'a>,
+    lines: Vec<ReportLine>,
+}
+
+/// Takes the memory for the replay of a plan.
+fn ready_plan<'a>(
+    alloc: Global,
+    plan: &'a Plan,
+    prepared: &'a Prepared<'a>,
+) -> Result<ReadyReplay<'a>, AllocError>
+    requires ready { IsReady plan.now }
+    requires prepared { prepared.now ≡ plan.now.barred }
+    ensures { IfOk result (λ replay. replay ≡ terms_of plan.now.barred plan.now.setting plan.now.scripts plan.now.fuel) }
 {
-    replay(
+    ReadyReplay::new(
         alloc,
-        &plan.barred,
+        prepared,
         &plan.setting,
         plan.scripts.items(),
         plan.fuel,
-        document.schedule.items(),
     )
 }
 
-/// The report of a document whose plan is replayed, in lines that were made for it.
-fn replay_lines(
+/// Takes the memory for the replay of a document's plan, and for its report.
+fn ready_report<'a>(
     alloc: Global,
     document: &Document,
-    plan: &Plan,
-    lines: Vec<ReportLine>,
-) -> Result<Report, RunFault>
+    plan: &'a Plan,
+    prepared: &'a Prepared<'a>,
+) -> Result<ReadyReport<'a>, AllocError>
+    requires within { IsWithinDocumentLimits document.now }
     requires planned { IsPlanned document.now (Ok plan.now) }
     requires ready { IsReady plan.now }
-    requires blank { lines.items ≡ all_lines no_answer 0 document.now.scripts }
-    ensures { IsReplayed document.now result }
+    requires prepared { prepared.now ≡ plan.now.barred }
+    ensures replay { IfOk result (λ r. r.replay ≡ terms_of plan.now.barred plan.now.setting plan.now.scripts plan.now.fuel) }
+    ensures blank { IfOk result (λ r. r.lines.items ≡ all_lines no_answer 0 document.now.scripts) }
 {
-    match replay_plan(alloc, plan, document) {
+    let lines = blank_lines(alloc, document.scripts.items())?;
+    let replay = ready_plan(alloc, plan, prepared)?;
+    Ok(ReadyReport { replay, lines })
+}
+
+/// Makes a replay by the turns of a document's schedule, and tells its end in the lines that were made for it.
+fn make_report(document: &Document, ready: ReadyReport) -> Result<Report, Stop>
+    requires blank { ready.lines.items ≡ all_lines no_answer 0 document.now.scripts }
+    ensures { ReportsTurns document.now result ready.entry.replay.fuel (replayed (replay_by ready.entry.replay) document.now.schedule) }
+{
+    let ReadyReport { replay, lines } = ready;
+    match replay.make(document.schedule.items()) {
         Ok(state) => Ok(report_of(document, lines, &state)),
-        Err(error) => Err(fault_of(error)),
+        Err(stop) => Err(stop),
     }
 }
 
-/// The report of a document whose plan is replayed.
-fn replay_report(alloc: Global, document: &Document, plan: &Plan) -> Result<Report, RunFault>
+/// What is answered for a replay that was made.
+fn answer_of(made: Result<Report, Stop>) -> Result<Report, RunFault>
+    ensures { result ≡ answer_of made }
+{
+    match made {
+        Ok(report) => Ok(report),
+        Err(stop) => Err(fault_of(stop)),
+    }
+}
+
+/// Replays a document by its plan.
+fn replay_by_plan(alloc: Global, document: &Document, plan: &Plan) -> Result<Report, RunFault>
     requires within { IsWithinDocumentLimits document.now }
     requires planned { IsPlanned document.now (Ok plan.now) }
     requires ready { IsReady plan.now }
     ensures { IsReplayed document.now result }
 {
-    match blank_lines(alloc, document.scripts.items()) {
-        Ok(lines) => replay_lines(alloc, document, plan, lines),
+    let prepared = Prepared::new(&plan.barred);
+    match ready_report(alloc, document, plan, &prepared) {
+        Ok(ready) => answer_of(make_report(document, ready)),
         Err(_) => Err(RunFault::Memory),
     }
 }
@@ -90,7 +126,7 @@ fn replay_planned(alloc: Global, document: &Document, plan: Plan) -> Result<Repo
     requires ready { IsReady plan }
     ensures { IsReplayed document.now result }
 {
-    let answered = replay_report(alloc, document, &plan);
+    let answered = replay_by_plan(alloc, document, &plan);
     drop(plan);
     answered
 }
@@ -115,16 +151,11 @@ pub fn replay_document(alloc: Global, document: &Document) -> Result<Report, Run
     }
 }
 
-/// Runs a plan by its callers on threads.
+/// Takes the memory for the callers of a plan, and keeps what they call.
 #[tactic(auto, using(crate::proofs::PlanLaws::plan_suits))]
-fn run_plan<R: Threads + Sync, G: Gate + Sync>(
-    rt: &R,
-    alloc: Global,
-    plan: Plan,
-    gate: &G,
-) -> Result<Final, AllocError>
+fn ready_plan_run(alloc: Global, plan: Plan, lines: Vec<ReportLine>) -> Result<ReadyRun, AllocError>
     requires ready { IsReady plan }
-    ensures { IfOk result (λ last. EndsPlan plan last.phase last.entries) }
+    ensures { IfOk result (λ r. IsReadyPlan plan r.callers r.scripts r.fuel × (r.lines.items ≡ lines.items)) }
 {
     let Plan {
         barred,
@@ -132,26 +163,30 @@ fn run_plan<R: Threads + Sync, G: Gate + Sync>(
         scripts,
         fuel,
     } = plan;
-    run_scripts(rt, alloc, barred, setting, scripts.items(), fuel, gate)
+    match ReadyCallers::new(alloc, barred, setting, scripts.items()) {
+        Ok(callers) => Ok(ReadyRun {
+            callers,
+            scripts,
+            fuel,
+            lines,
+        }),
+        Err(error) => Err(error),
+    }
 }
 
-/// Runs a plan, and tells its end in lines that were made for its document.
-fn run_lines<R: Threads + Sync, G: Gate + Sync>(
-    rt: &R,
-    alloc: Global,
-    document: &Document,
-    plan: Plan,
-    lines: Vec<ReportLine>,
-    gate: &G,
-) -> Result<Report, RunFault>
+/// Takes the memory for the run of a document's plan, and for its report.
+fn ready_run(alloc: Global, document: &Document, plan: Plan) -> Result<ReadyRun, AllocError>
+    requires within { IsWithinDocumentLimits document.now }
     requires planned { IsPlanned document.now (Ok plan) }
     requires ready { IsReady plan }
-    requires blank { lines.items ≡ all_lines no_answer 0 document.now.scripts }
-    ensures { IsRan document.now result }
+    ensures { IfOk result (λ r. IsReadyPlan plan r.callers r.scripts r.fuel × (r.lines.items ≡ all_lines no_answer 0 document.now.scripts)) }
 {
-    match run_plan(rt, alloc, plan, gate) {
-        Ok(last) => Ok(report_at(document, lines, &last)),
-        Err(_) => Err(RunFault::Memory),
+    match blank_lines(alloc, document.scripts.items()) {
+        Ok(lines) => ready_plan_run(alloc, plan, lines),
+        Err(error) => {
+            drop(plan);
+            Err(error)
+        }
     }
 }
 
@@ -168,12 +203,9 @@ fn run_planned<R: Threads + Sync, G: Gate + Sync>(
     requires ready { IsReady plan }
     ensures { IsRan document.now result }
 {
-    match blank_lines(alloc, document.scripts.items()) {
-        Ok(lines) => run_lines(rt, alloc, document, plan, lines, gate),
-        Err(_) => {
-            drop(plan);
-            Err(RunFault::Memory)
-        }
+    match ready_run(alloc, document, plan) {
+        Ok(ready) => told(run_ready(rt, document, ready, gate)),
+        Err(_) => Err(RunFault::Memory),
     }
 }
 

@@ -3,3 +3,4 @@ mod Reading
 mod Limited
 mod TextLinesOnly
 mod TextDocuments
+mod WorkedLimits

@@ -1,12 +1,13 @@
 -- A shape and a setting whose numbers are in their ranges are made.
-use Rattle.std.proofs.Common.{◌≡◌, ℕ, zero, suc, ◌≤◌, ◌<◌, ◌^◌, true, ◌&&◌, length, Ok, Err, refl, ap, ◌∙◌, arith}
+use Rattle.std.proofs.Common.{◌≡◌, ℕ, zero, suc, ◌≤◌, ◌<◌, ◌^◌, true, ◌&&◌, length, Ok, Err, refl, sym, ap, ◌∙◌, arith}
 use Rattle.std.proofs.lemmas.Bool.Decides.{nat_tests}
 use Rattle.std.specs.Prelude.{List, [], ◌∷◌, nat_le, slice_index, take, IsTrue}
 use Rattle.std.specs.List.{list_all}
 use Rattle.norm_lang.specs.declared.text.Text.{Text}
 use Rattle.oa_words.specs.Words.{Sizes}
 use Rattle.oa_words.specs.SlotKinds.{slots_of, together}
-use Rattle.oa_words.specs.Within.{AreSizes, is_count, sizes_of_kinds, sizes_or_fault}
+use Rattle.oa_words.specs.Within.{AreSizes, AreSmall, is_count, sizes_of_kinds, sizes_or_fault}
+use Rattle.oa_words.specs.declared.limits.TheConstants.{TOPS}
 use Rattle.oa_words.specs.declared.shape.ShapeFault.{ShapeFault}
 use Rattle.caller_parts.specs.declared.setting.SettingFault.{SettingFault}
 use Rattle.caller_parts.specs.Settings.{Setting, IsSetting, are_phases, have_slots, setting_or_fault}
@@ -24,15 +25,15 @@ have sizes nodes (suc t) each =
 phases : (first last : ℕ) → 1 ≤ first → first ≤ last → last ≤ 2 ^ 50 → are_phases first last ≡ true
 phases first last some up few = rw (test 1 first some, test first last up, test last (2 ^ 50) few) refl
 
-made : (setting : Setting) → IsSetting setting → setting_or_fault setting ≡ Ok setting
-made setting own =
-    rw (have setting.sizes setting.nodes (length setting.sizes.kinds) own.nodes, phases setting.first setting.last own.first own.phases own.last) refl
+made : (setting : Setting) → IsSetting setting → setting.last ≤ 2 ^ 50 → setting_or_fault setting ≡ Ok setting
+made setting own few =
+    rw (have setting.sizes setting.nodes (length setting.sizes.kinds) own.nodes, phases setting.first setting.last own.first own.phases few) refl
 
-pub is_made : (setting result : Setting) → IsSetting setting → Ok result ≡ setting_or_fault setting → result ≡ setting
-is_made setting result own is = let same : Ok result ≡ Ok setting = is ∙ made setting own in cc
+pub is_made : (setting result : Setting) → IsSetting setting → setting.last ≤ 2 ^ 50 → Ok result ≡ setting_or_fault setting → result ≡ setting
+is_made setting result own few is = let same : Ok result ≡ Ok setting = is ∙ made setting own few in cc
 
-pub never_refused : (setting : Setting) (fault : SettingFault) → IsSetting setting → Err fault ≡ setting_or_fault setting → ⊥
-never_refused setting fault own is = let no : Err fault ≡ Ok setting = is ∙ made setting own in cc
+pub never_refused : (setting : Setting) (fault : SettingFault) → IsSetting setting → setting.last ≤ 2 ^ 50 → Err fault ≡ setting_or_fault setting → ⊥
+never_refused setting fault own few is = let no : Err fault ≡ Ok setting = is ∙ made setting own few in cc
 
 pub few_nodes : (text : Text) → IsWithinLimits text → length text.nodes < 2 ^ 32
 few_nodes text within =
@@ -64,24 +65,33 @@ all_counts [] each few = refl
 all_counts (k ∷ kinds) each few =
     rw (count 4096 k (each 0 (omega arith)) (omega (arith, few))) (all_counts kinds (λ t lt. each (suc t) (omega (arith, lt))) (omega (arith, few)))
 
-sizes : (n : Sizes) → AreSizes n → sizes_or_fault (length n.kinds) n ≡ Ok n
-sizes n own =
-    let kinds = own.8 in
+sizes : (n : Sizes) → AreSizes n → AreSmall n → sizes_or_fault (length n.kinds) n ≡ Ok n
+sizes n own small =
+    let kinds = own.kinds in
     let whole : together n.kinds ≡ n.slots = kinds.whole in
-    let few : n.slots ≤ 4096 = own.3 in
-    rw (count 8 n.callers own.0 own.1, count 4 (length n.kinds) kinds.some kinds.few, all_counts n.kinds kinds.each (omega (arith, whole, few)), test n.slots 4096 few, count 4 n.fields own.4 own.5, count 256 n.cells own.6 own.7) refl
+    let few : n.slots ≤ 4096 = small.slots in
+    rw (
+      count 8 n.callers own.callers small.callers,
+      count 4 (length n.kinds) kinds.some kinds.few,
+      all_counts n.kinds kinds.each (omega (arith, whole, few)),
+      test n.slots 4096 few,
+      count 4 n.fields own.fields small.fields,
+      count 256 n.cells own.cells small.cells,
+    ) refl
 
 abbrev asked : Sizes → Sizes
 asked n = sizes_of_kinds n.callers (take (length n.kinds) (slice_index n.kinds 0 ∷ slice_index n.kinds 1 ∷ slice_index n.kinds 2 ∷ slice_index n.kinds 3 ∷ [])) n.fields n.cells
 
-same : (n : Sizes) → AreSizes n → asked n ≡ n
-same n own = ap (λ (kinds : List ℕ). sizes_of_kinds n.callers kinds n.fields n.cells) (four n.kinds own.8.few) ∙ ap (λ (slots : ℕ). record n { slots = slots }) own.8.whole
+same : (n : Sizes) → AreSizes n → AreSmall n → asked n ≡ n
+same n own small =
+    ap (λ (kinds : List ℕ). sizes_of_kinds n.callers kinds n.fields n.cells) (four n.kinds own.kinds.few)
+    ∙ (ap (λ (slots : ℕ). record n { slots = slots; tops = TOPS }) own.kinds.whole ∙ ap (λ (tops : ℕ). record n { tops = tops }) (sym small.tops))
 
-made_shape : (n : Sizes) → AreSizes n → sizes_or_fault (length n.kinds) (asked n) ≡ Ok n
-made_shape n own = ap (sizes_or_fault (length n.kinds)) (same n own) ∙ sizes n own
+made_shape : (n : Sizes) → AreSizes n → AreSmall n → sizes_or_fault (length n.kinds) (asked n) ≡ Ok n
+made_shape n own small = ap (sizes_or_fault (length n.kinds)) (same n own small) ∙ sizes n own small
 
-pub is_copied : (n shape : Sizes) → AreSizes n → Ok shape ≡ sizes_or_fault (length n.kinds) (asked n) → shape ≡ n
-is_copied n shape own is = let same : Ok shape ≡ Ok n = is ∙ made_shape n own in cc
+pub is_copied : (n shape : Sizes) → AreSizes n → AreSmall n → Ok shape ≡ sizes_or_fault (length n.kinds) (asked n) → shape ≡ n
+is_copied n shape own small is = let same : Ok shape ≡ Ok n = is ∙ made_shape n own small in cc
 
-pub never_shapeless : (n : Sizes) (fault : ShapeFault) → AreSizes n → Err fault ≡ sizes_or_fault (length n.kinds) (asked n) → ⊥
-never_shapeless n fault own is = let no : Err fault ≡ Ok n = is ∙ made_shape n own in cc
+pub never_shapeless : (n : Sizes) (fault : ShapeFault) → AreSizes n → AreSmall n → Err fault ≡ sizes_or_fault (length n.kinds) (asked n) → ⊥
+never_shapeless n fault own small is = let no : Err fault ≡ Ok n = is ∙ made_shape n own small in cc

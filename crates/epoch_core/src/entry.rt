@@ -1,12 +1,13 @@
 //! A caller's entry under epochs.
 
-ghost use Rattle.std.specs.Prelude.{◌≡◌, ◌≢◌, ◌-◌, ◌<◌, None, IfOk, length, map, true, is_some, not};
+ghost use Rattle.std.specs.Prelude.{◌≡◌, ◌≢◌, ◌-◌, ◌<◌, ◌≤◌, None, IfOk, length, map, true, is_some, not};
 ghost use Rattle.target_code.specs.Bare.{bare};
 ghost use Rattle.caller_steps.specs.Entries.{idle_entry, is_idle};
 ghost use Rattle.caller_parts.specs.Pairing.{reply_of};
 ghost use Rattle.caller_parts.specs.declared.setting.Reclamation.TheVariants.{Epochs};
 ghost use Rattle.caller_parts.specs.Calls.{is_call};
 ghost use Rattle.caller_parts.specs.Settings.{IsSetting};
+ghost use Rattle.caller_parts.specs.declared.limits.TheConstants.{MOST_PHASES};
 ghost use Rattle.caller_steps.specs.Asking.{located_option};
 ghost use Rattle.caller_steps.specs.Lawful.{MayBeTold};
 ghost use Rattle.caller_steps.specs.Wants.{wants};
@@ -92,6 +93,7 @@ impl EpochEntry {
     /// The one access that the entry makes next, to a word of the row; none exactly if it is idle.
     pub fn pending(&self, normal: &Normal, shape: &Shape, last_phase: u64) -> Option<Access>
         requires setting { IsSetting (entry_setting normal.now shape.now last_phase) }
+        requires last { last_phase ≤ MOST_PHASES }
         requires belongs { BelongsTo (bare_pair normal.now) (entry_setting normal.now shape.now last_phase) self.now.core }
         ensures wanted { result ≡ located_option shape.now (wants (bare normal.now) self.now.core) }
         ensures idle { is_some result ≡ not (is_idle self.now.core.routine) }
@@ -105,6 +107,7 @@ impl EpochEntry {
     /// matter.
     pub fn accept(&mut self, normal: &Normal, shape: &Shape, last_phase: u64, word: u64)
         requires setting { IsSetting (entry_setting normal.now shape.now last_phase) }
+        requires last { last_phase ≤ MOST_PHASES }
         requires belongs { BelongsTo (bare_pair normal.now) (entry_setting normal.now shape.now last_phase) self.old.core }
         requires wanted { wants (bare normal.now) self.old.core ≢ None }
         requires lawful { MayBeTold (bare normal.now) (entry_setting normal.now shape.now last_phase) (wants (bare normal.now) self.old.core) word }

@@ -1,9 +1,10 @@
 //! The setting of a run under epochs.
 
-ghost use Rattle.std.specs.Prelude.{◌≡◌, slice_index};
+ghost use Rattle.std.specs.Prelude.{◌≡◌, ◌≤◌, slice_index};
 ghost use Rattle.target_code.specs.Bare.{bare};
 ghost use Rattle.caller_parts.specs.KindCounts.{node_counts};
 ghost use Rattle.caller_parts.specs.Settings.{IsSetting};
+ghost use Rattle.caller_parts.specs.declared.limits.TheConstants.{MOST_PHASES};
 ghost use Rattle.epoch_core.specs.Settings.{epoch_setting};
 
 use caller_parts::counts::kind_nodes;
@@ -22,7 +23,8 @@ fn node_counts(normal: &Normal) -> [u32; 4]
 /// The setting of epochs with the text's initial nodes. Its numbers are in their ranges.
 #[tactic(auto, using(crate::proofs::Making::is_made, crate::proofs::Making::never_refused))]
 pub fn setting_of(normal: &Normal, shape: Shape, first_phase: u64, last_phase: u64) -> Setting
-    requires { IsSetting (epoch_setting normal.now shape first_phase last_phase) }
+    requires setting { IsSetting (epoch_setting normal.now shape first_phase last_phase) }
+    requires last { last_phase ≤ MOST_PHASES }
     ensures { result ≡ epoch_setting normal.now shape first_phase last_phase }
 {
     let nodes = node_counts(normal);
@@ -70,7 +72,8 @@ pub fn copy_of(shape: &Shape) -> Shape
 
 /// The setting by which an entry goes: phases from 1 to the last.
 pub(crate) fn setting_on(normal: &Normal, shape: &Shape, last_phase: u64) -> Setting
-    requires { IsSetting (epoch_setting normal.now shape.now 1 last_phase) }
+    requires setting { IsSetting (epoch_setting normal.now shape.now 1 last_phase) }
+    requires last { last_phase ≤ MOST_PHASES }
     ensures { result ≡ epoch_setting normal.now shape.now 1 last_phase }
 {
     setting_of(normal, copy_of(shape), 1, last_phase)

@@ -49,7 +49,7 @@ worlds_begin t plan homes =
       holds = first_world t (view t.setting (core_start t.target t.setting)).memory first (no_warning t.target t.setting plan.epochs start suits) (omega (arith, phase, begun));
       memory = refl;
       entry = λ d lt. sym (start.who d);
-      sourced = record { run = record { some = plan.some.sizes.0; few = plan.some.sizes.1; runs = refl }; watched = refl };
+      sourced = record { run = record { some = plan.some.sizes.callers; runs = refl }; watched = refl };
       source = refl;
       caller = λ d lt. all_idle t.setting.sizes.callers d lt;
       run = λ d lt. refl;

@@ -75,6 +75,7 @@ pub record Claiming (t : Plan) (s : Shared) (since : ℕ → ℕ) (c : ℕ) (x :
   pub holds : EpochHolds t s since
   pub base : Base t s since c x
   pub scheme : claim.sweep.scheme ≡ Announced c
+  pub tops : claim.sweep.tops ≡ t.setting.sizes.tops
   -- it stands at a `new` of its generator
   pub at_new : is_new_at (instr_in t.target x.entry) ≡ true
   pub generator : x.entry.hand.wrapup ≡ false
@@ -221,17 +222,21 @@ with_head t c s since x claim kind v k = record {
   present = refl;
 }
 
-takes : (t : Plan) (c : ℕ) (s : Shared) (since : ℕ → ℕ) (x : Caller) (claim : Claim) (j q next : ℕ) → Claiming t s since c x claim → 1 ≤ j → ClaimsIn t s c x (has_swept claim.sweeps)
-    → KeptWith t c s since x (after_access s.memory (claim_wants_at claim.kind claim.sweep (claims.Take q j next))) (claimed Epochs t.target (look_took claim q j (s.memory (Head claim.kind))) (claim_counted (takes_at (claims.Take q j next) (s.memory (Head claim.kind))) (counted x.entry))) s.present
-takes t c s since x claim j q next k some w = of (s.memory (Head claim.kind) == head_word q j) where
-  left : (v : ℕ) → Leaves t c s (with_words s (store s.memory (Head claim.kind) v)) since x
-  left v = record { null = k.plan.null; after = (with_head t c s since x claim claim.kind v k).holds; names = record { held = λ j k is. (is, refl); public = λ n is. is }; announced = λ some. some; pairs = λ m some safe pairs. pairs }
+takes : (t : Plan) (c : ℕ) (s : Shared) (since : ℕ → ℕ) (x : Caller) (claim : Claim) (tops j q next : ℕ) → tops ≡ t.setting.sizes.tops → Claiming t s since c x claim → 1 ≤ j → ClaimsIn t s c x (has_swept claim.sweeps)
+    → KeptWith t c s since x (store s.memory (Head claim.kind) (if s.memory (Head claim.kind) == head_word tops q j then head_word tops q next else s.memory (Head claim.kind)))
+    (claimed Epochs t.target (look_took t.setting.sizes claim q j (s.memory (Head claim.kind))) (claim_counted (takes_at t.setting.sizes.tops (claims.Take q j next) (s.memory (Head claim.kind))) (counted x.entry))) s.present
+takes t c s since x claim tops j q next same k some w =
+    subst (λ (n : ℕ). KeptWith t c s since x (store s.memory (Head claim.kind) (if s.memory (Head claim.kind) == head_word n q j then head_word n q next else s.memory (Head claim.kind)))
+    (claimed Epochs t.target (look_took t.setting.sizes claim q j (s.memory (Head claim.kind))) (claim_counted (takes_at t.setting.sizes.tops (claims.Take q j next) (s.memory (Head claim.kind))) (counted x.entry))) s.present) (sym same)
+    (of (s.memory (Head claim.kind) == head_word t.setting.sizes.tops q j)) where
+      left : (v : ℕ) → Leaves t c s (with_words s (store s.memory (Head claim.kind) v)) since x
+      left v = record { null = k.plan.null; after = (with_head t c s since x claim claim.kind v k).holds; names = record { held = λ j k is. (is, refl); public = λ n is. is }; announced = λ some. some; pairs = λ m some safe pairs. pairs }
 
-  of : (b : Bool) → KeptWith t c s since x (store s.memory (Head claim.kind) (if b then head_word q next else s.memory (Head claim.kind)))
-      (claimed Epochs t.target (if b then claim_goes claim (claims.StoreUsed q j) else claim_goes claim claims.ReadHead) (claim_counted b (counted x.entry))) s.present
-  of true = claim_kept t c s (with_words s (store s.memory (Head claim.kind) (head_word q next))) since since x (record claim { stage = claims.StoreUsed q j }) None true _ s.present (with_head t c s since x claim claim.kind (head_word q next) k)
-      (k.scheme, some, claims_kept t c s (with_words s (store s.memory (Head claim.kind) (head_word q next))) since x (left (head_word q next)) (has_swept claim.sweeps) w)
-  of false = claim_kept t c s s since since x (record claim { stage = claims.ReadHead }) None false _ s.present (idle t c s since x claim (Head claim.kind) k) (k.scheme, tt, w)
+      of : (b : Bool) → KeptWith t c s since x (store s.memory (Head claim.kind) (if b then head_word t.setting.sizes.tops q next else s.memory (Head claim.kind)))
+          (claimed Epochs t.target (if b then claim_goes claim (claims.StoreUsed q j) else claim_goes claim claims.ReadHead) (claim_counted b (counted x.entry))) s.present
+      of true = claim_kept t c s (with_words s (store s.memory (Head claim.kind) (head_word t.setting.sizes.tops q next))) since since x (record claim { stage = claims.StoreUsed q j }) None true _ s.present (with_head t c s since x claim claim.kind (head_word t.setting.sizes.tops q next) k)
+          (k.scheme, some, claims_kept t c s (with_words s (store s.memory (Head claim.kind) (head_word t.setting.sizes.tops q next))) since x (left (head_word t.setting.sizes.tops q next)) (has_swept claim.sweeps) w)
+      of false = claim_kept t c s s since since x (record claim { stage = claims.ReadHead }) None false _ s.present (idle t c s since x claim (Head claim.kind) k) (k.scheme, tt, w)
 
 -- ---- a slot that was taken is used
 
@@ -319,18 +324,18 @@ sweep_goes_on t s since c x claim sweep (Some (swept.PhasesOver p)) is scheme ne
 -- each step of a claim
 pub claims_keep : (t : Plan) (c : ℕ) (s : Shared) (since : ℕ → ℕ) (x : Caller) (claim : Claim) (stage : ClaimStage) → claim.stage ≡ stage → Claiming t s since c x claim → new_number t.target x.entry < length x.entry.cradles → 1 ≤ t.setting.sizes.callers
     → TakenIsReady s.memory stage → ClaimAt t s since c claim.sweep stage → ClaimsIn t s c x (has_withdrawn stage claim.sweeps)
-    → KeptWith t c s since x (after_access s.memory (claim_wants_at claim.kind claim.sweep stage)) (claimed Epochs t.target (claim_accepts_at t.setting.sizes t.setting.last claim (s.memory (word_of (claim_wants_at claim.kind claim.sweep stage))) stage) (claim_counted (takes_at stage (s.memory (word_of (claim_wants_at claim.kind claim.sweep stage)))) (counted x.entry))) (freed_in stage claim.sweep.stage s.memory s.present)
+    → KeptWith t c s since x (after_access s.memory (claim_wants_at claim.sweep.tops claim.kind claim.sweep stage)) (claimed Epochs t.target (claim_accepts_at t.setting.sizes t.setting.last claim (s.memory (word_of (claim_wants_at claim.sweep.tops claim.kind claim.sweep stage))) stage) (claim_counted (takes_at t.setting.sizes.tops stage (s.memory (word_of (claim_wants_at claim.sweep.tops claim.kind claim.sweep stage)))) (counted x.entry))) (freed_in stage claim.sweep.stage s.memory s.present)
 claims_keep t c s since x claim claims.ReadHead is k lt callers ready at w =
-    let turn = look_begun claim (head_parts (s.memory (Head claim.kind))) in
-    claim_kept t c s s since since x turn.claim turn.ended false _ s.present (idle t c s since x claim (Head claim.kind) k) (head_next t s since c x claim (head_parts (s.memory (Head claim.kind))) k.scheme w)
+    let turn = look_begun claim (head_parts t.setting.sizes.tops (s.memory (Head claim.kind))) in
+    claim_kept t c s s since since x turn.claim turn.ended false _ s.present (idle t c s since x claim (Head claim.kind) k) (head_next t s since c x claim (head_parts t.setting.sizes.tops (s.memory (Head claim.kind))) k.scheme w)
 claims_keep t c s since x claim (claims.ReadLink q j) is k lt callers ready at w =
     claim_kept t c s s since since x (record claim { stage = claims.Take q j (s.memory (Link j)) }) None false _ s.present (idle t c s since x claim (Link j) k) (k.scheme, at, w)
-claims_keep t c s since x claim (claims.Take q j next) is k lt callers ready at w = takes t c s since x claim j q next k at w
+claims_keep t c s since x claim (claims.Take q j next) is k lt callers ready at w = takes t c s since x claim claim.sweep.tops j q next k.tops k at w
 claims_keep t c s since x claim (claims.StoreUsed q j) is k lt callers ready at w = took t c s since x claim j ready.0 q k at lt ready.1 w
 claims_keep t c s since x claim (claims.Withdraw own) is k lt callers ready at w = withdraws t c s since x claim own k at w
 claims_keep t c s since x claim claims.Sweeps is k lt callers ready at w =
-    let turn = sweep_accepts_at t.setting.sizes t.setting.last claim.sweep (s.memory (word_of (sweep_wants_at claim.sweep.scheme claim.sweep.stage claim.sweep.bound))) claim.sweep.stage in
-    let swept = sweep_step t s since c claim.sweep claim.sweep.stage callers k.scheme k.holds at in
+    let turn = sweep_accepts_at t.setting.sizes t.setting.last claim.sweep (s.memory (word_of (sweep_wants_at claim.sweep.tops claim.sweep.scheme claim.sweep.stage claim.sweep.bound))) claim.sweep.stage in
+    let swept = sweep_step t s since c claim.sweep claim.sweep.stage callers k.scheme k.tops k.holds at in
     claim_kept t c s swept.s' since since x (sweep_ended claim turn.sweep turn.ended).claim (sweep_ended claim turn.sweep turn.ended).ended false _ _
     (record { holds = swept.holds; goes = swept.goes c; base = swept_own t c s swept.s' since x k.holds swept.goes k.base; source = swept.source; unused = swept.unused; memory = swept.memory; present = swept.present })
-    (sweep_goes_on t swept.s' since c x claim turn.sweep turn.ended is ((sweep_keeps t.setting.sizes t.setting.last claim.sweep (s.memory (word_of (sweep_wants_at claim.sweep.scheme claim.sweep.stage claim.sweep.bound)))).scheme ∙ k.scheme) swept.next w)
+    (sweep_goes_on t swept.s' since c x claim turn.sweep turn.ended is ((sweep_keeps t.setting.sizes t.setting.last claim.sweep (s.memory (word_of (sweep_wants_at claim.sweep.tops claim.sweep.scheme claim.sweep.stage claim.sweep.bound)))).scheme ∙ k.scheme) swept.next w)

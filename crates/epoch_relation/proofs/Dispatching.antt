@@ -194,10 +194,10 @@ module _ (t : Plan) (c : ℕ) (s : Shared) (since : ℕ → ℕ) (x : Caller) (w
       let few : new_number t.target x.entry < length x.entry.cradles =
       (let known = stands.1.kind in
       let same = stands.2 in
-      let four = w.plan.some.sizes.8.few in
+      let four = w.plan.some.sizes.kinds.few in
       let small = cradle_number_small t.target x.entry.hand.wrapup (core_code t.target x.entry) x.entry.hand.at (sane_code t.target w.plan.sane x.entry.running.call.op x.entry.hand.wrapup) at_new (omega (arith, known, same, four)) in
       let count = w.belongs.cradles.count in omega (arith, small, count)) in
-      claims_keep t c s since x claim claim.stage refl (record { plan = w.plan; holds = w.holds; base = w.told.base; scheme = h.0; at_new = at_new; generator = gen }) few w.plan.callers
+      claims_keep t c s since x claim claim.stage refl (record { plan = w.plan; holds = w.holds; base = w.told.base; scheme = h.0; tops = stands.1.tops; at_new = at_new; generator = gen }) few w.plan.callers
       (subst (λ (r : Routine). TakesReady s.memory r) is w.ready) h.1 h.2
 
   -- ---- a store of 0 of a `new`

@@ -8,7 +8,7 @@ use Rattle.phase_pools.specs.Accesses.{WordAccess, word_of}
 use Rattle.phase_pools.specs.Pools.{Retirement}
 use Rattle.chain_laws.specs.Machine as pool
 use Rattle.chain_laws.specs.Memories.{after_access}
-use Rattle.source_machine.specs.Proper.{IsProper}
+use Rattle.source_machine.specs.Proper.{IsProperFor}
 use Rattle.source_machine.proofs.Places.{each_put}
 use Rattle.caller_parts.specs.declared.call.Call.{Call}
 use Rattle.caller_parts.specs.declared.routine.Routine.{Routine}
@@ -83,7 +83,7 @@ signs_are : (t : Plan) (e : Entry) (word : ℕ) → signs t.target t.setting e w
 unfolding signs
 signs_are t e word = refl
 
-module _ (t : Plan) (plan : IsPlan t) (proper : IsProper t.text) (events_seen : EventsAreSeen t.target t.setting) where
+module _ (t : Plan) (plan : IsPlan t) (proper : IsProperFor t.setting.sizes.callers t.text) (events_seen : EventsAreSeen t.target t.setting) where
   abbrev seen : CoreState → CoreView
   seen state = view t.setting state
 
@@ -176,7 +176,7 @@ module _ (t : Plan) (plan : IsPlan t) (proper : IsProper t.text) (events_seen : 
   event_beside (Steps c) state behind z sound shaped b ready m homes = step_beside state behind z c sound shaped b (ready c) m homes
 
   -- the induction, over what stays sound
-  pub run_beside : AreKinds t.setting.sizes → t.setting.sizes.slots ≤ 4096 → NewsFit t.target t.setting.sizes → Suits t.setting.sizes (beginning_of t.target t.setting) → ((state : CoreState) → IsSound t.target t.setting state → IsShaped t.target t.setting state)
+  pub run_beside : AreKinds t.setting.sizes → t.setting.sizes.slots < t.setting.sizes.tops → NewsFit t.target t.setting.sizes → Suits t.setting.sizes (beginning_of t.target t.setting) → ((state : CoreState) → IsSound t.target t.setting state → IsShaped t.target t.setting state)
       → ((state behind : CoreState) (event : CoreEvent) → IsSound t.target t.setting state → core_event t.target t.setting state event ≡ Some behind → IsSound t.target t.setting behind)
       → (events : List CoreEvent) (state behind : CoreState) (z : Shadow) (present : ℕ → ℕ) → IsSound t.target t.setting state → PooledBeside t state z present → core_run t.target t.setting events state ≡ Some behind
       → HomeIs t.home (shadow_run t.text (run_signs t.target t.setting events state) z)

@@ -7,7 +7,7 @@ use Rattle.target_laws.specs.target_runs.Runnable.{MayBeWalked}
 use Rattle.target_laws.proofs.target_runs.SaneTargets.{runnable_is_sane}
 use Rattle.target_code.specs.Bare.{bare}
 use Rattle.bare_targets.proofs.Runnable.{bare_texts_are_runnable}
-use Rattle.source_machine.specs.Proper.{IsProper}
+use Rattle.source_machine.specs.Proper.{IsProperFor}
 use Rattle.caller_parts.specs.declared.setting.Reclamation.TheVariants.{Epochs}
 use Rattle.caller_parts.specs.Settings.{Setting, Fits, IsSetting}
 use Rattle.core_runs.specs.Machine.{CoreState, CoreEvent, core_run, core_start}
@@ -52,7 +52,7 @@ pub record Stood (text : Text) (setting : Setting) (events : List CoreEvent) (st
   -- the relation's names are the run's
   pub present : beside.w.shared.present ≡ present_in (bare text) text setting events
 
-module _ (text : Text) (setting : Setting) (events : List CoreEvent) (state : CoreState) (within : IsWithinLimits text) (normal : IsNormal text) (own : IsSetting setting) (fits : Fits (bare text) setting) (epochs : setting.reclamation ≡ Epochs) (proper : IsProper text)
+module _ (text : Text) (setting : Setting) (events : List CoreEvent) (state : CoreState) (within : IsWithinLimits text) (normal : IsNormal text) (own : IsSetting setting) (fits : Fits (bare text) setting) (epochs : setting.reclamation ≡ Epochs) (proper : IsProperFor setting.sizes.callers text)
     (is : core_run (bare text) setting events (core_start (bare text) setting) ≡ Some state) where
   abbrev t : Plan
   t = plan_of text setting events
@@ -74,16 +74,16 @@ module _ (text : Text) (setting : Setting) (events : List CoreEvent) (state : Co
         sane = runnable_is_sane (bare text) text runs;
         some = own;
         fits = fits;
-        callers = own.sizes.0;
+        callers = own.sizes.callers;
         null = homes 0 (omega arith) ∙ first_null setting;
         epochs = epochs;
       } in
       let sound0 = start_sound (bare text) setting (methods (bare text) text runs) runs.within own fits in
-      let b = run_beside t plan proper (events_are_seen (bare text) setting) (setting_sane setting own).kinds (setting_sane setting own).few (news_fit (bare text) setting (methods (bare text) text runs) (setting_sane setting own) fits) suits
+      let b = run_beside t plan proper (events_are_seen (bare text) setting) (setting_sane setting own).kinds own.sizes.tops (news_fit (bare text) setting (methods (bare text) text runs) (setting_sane setting own) fits) suits
       (λ s sound. sound_is_shaped (bare text) setting s (methods (bare text) text runs) (setting_sane setting own) fits sound)
       (λ s next event sound at. event_sound (bare text) setting s next event (methods (bare text) text runs) (setting_sane setting own) fits sound at)
       events (core_start (bare text) setting) state z0 (first_present setting) sound0
-      (record { named = (worlds_begin t plan homes, begins_present t plan homes); pooled = start_pooled (bare text) setting (setting_sane setting own).kinds (setting_sane setting own).few suits }) is (λ n lt. refl) in
+      (record { named = (worlds_begin t plan homes, begins_present t plan homes); pooled = start_pooled (bare text) setting (setting_sane setting own).kinds own.sizes.tops suits }) is (λ n lt. refl) in
       record {
         plan = plan;
         sound = states_are_sound (bare text) text setting state runs own fits (record { events = events; runs = is });

@@ -115,7 +115,7 @@ heard_next t s since own low c lt w = of (nat_lt (c + 1) t.setting.sizes.callers
 -- ---- each stage
 
 frees : (t : Plan) (s : Shared) (since : ℕ → ℕ) (sweep : Sweep) (j q : ℕ) → EpochHolds t s since → SweepAt t s since sweep.low (sweeps.MakeReady j q)
-    → Swept t s since (after_access s.memory (sweep_wants_at sweep.scheme (sweeps.MakeReady j q) sweep.bound)) (made_ready t.setting.sizes sweep j q (s.memory (Status j))) (freed_at (sweeps.MakeReady j q) s.memory s.present)
+    → Swept t s since (after_access s.memory (sweep_wants_at sweep.tops sweep.scheme (sweeps.MakeReady j q) sweep.bound)) (made_ready t.setting.sizes sweep j q (s.memory (Status j))) (freed_at (sweeps.MakeReady j q) s.memory s.present)
 frees t s since sweep j q f w = of (s.memory (Status j) == status_word q kinds.Retired) refl where
   of : (b : Bool) → (s.memory (Status j) == status_word q kinds.Retired) ≡ b
       → Swept t s since (store s.memory (Status j) (if b then status_word sweep.bound kinds.Ready else s.memory (Status j))) (if b then sweep_goes sweep (sweeps.PushHead (kind_of t.setting.sizes j) j) else sweep_on t.setting.sizes sweep j) (if b then put s.present j 0 else s.present)
@@ -141,39 +141,41 @@ frees t s since sweep j q f w = of (s.memory (Status j) == status_word q kinds.R
         next = record { raised = w.0.raised; passed = w.0.passed };
       }
 
-pushes : (t : Plan) (s : Shared) (since : ℕ → ℕ) (sweep : Sweep) (kind j q top : ℕ) → EpochHolds t s since → Passed t s since sweep.low t.setting.sizes.callers
-    → Swept t s since (after_access s.memory (sweep_wants_at sweep.scheme (sweeps.PushTop kind j q top) sweep.bound)) (pushed t.setting.sizes sweep j q top (s.memory (Head kind))) s.present
-pushes t s since sweep kind j q top f w = of (s.memory (Head kind) == head_word q top) where
-  here : (x : ℕ) → Passed t (with_words s (store s.memory (Head kind) x)) since sweep.low t.setting.sizes.callers
-  here x = record { raised = w.raised; passed = w.passed }
+pushes : (t : Plan) (s : Shared) (since : ℕ → ℕ) (sweep : Sweep) (tops kind j q top : ℕ) → tops ≡ t.setting.sizes.tops → EpochHolds t s since → Passed t s since sweep.low t.setting.sizes.callers
+    → Swept t s since (after_access s.memory (sweep_wants_at tops sweep.scheme (sweeps.PushTop kind j q top) sweep.bound)) (pushed t.setting.sizes sweep j q top (s.memory (Head kind))) s.present
+pushes t s since sweep tops kind j q top same f w =
+    subst (λ (n : ℕ). Swept t s since (after_access s.memory (sweep_wants_at n sweep.scheme (sweeps.PushTop kind j q top) sweep.bound)) (pushed t.setting.sizes sweep j q top (s.memory (Head kind))) s.present) (sym same)
+    (of (s.memory (Head kind) == head_word t.setting.sizes.tops q top)) where
+      here : (x : ℕ) → Passed t (with_words s (store s.memory (Head kind) x)) since sweep.low t.setting.sizes.callers
+      here x = record { raised = w.raised; passed = w.passed }
 
-  of : (b : Bool) → Swept t s since (store s.memory (Head kind) (if b then head_word (max q sweep.bound) j else s.memory (Head kind))) (if b then sweep_on t.setting.sizes sweep j else sweep_goes sweep (sweeps.PushHead (kind_of t.setting.sizes j) j)) s.present
-  of true = risen t s since (store s.memory (Head kind) (head_word (max q sweep.bound) j)) (sweep_on t.setting.sizes sweep j) (head_risen s.memory since kind (head_word (max q sweep.bound) j) f.holds.warning) (λ d. refl) f
-      (on_next t (with_words s (store s.memory (Head kind) (head_word (max q sweep.bound) j))) since sweep j (here (head_word (max q sweep.bound) j)))
-  of false = unchanged t s since (Head kind) (sweep_goes sweep (sweeps.PushHead (kind_of t.setting.sizes j) j)) f w
+      of : (b : Bool) → Swept t s since (store s.memory (Head kind) (if b then head_word t.setting.sizes.tops (max q sweep.bound) j else s.memory (Head kind))) (if b then sweep_on t.setting.sizes sweep j else sweep_goes sweep (sweeps.PushHead (kind_of t.setting.sizes j) j)) s.present
+      of true = risen t s since (store s.memory (Head kind) (head_word t.setting.sizes.tops (max q sweep.bound) j)) (sweep_on t.setting.sizes sweep j) (head_risen s.memory since kind (head_word t.setting.sizes.tops (max q sweep.bound) j) f.holds.warning) (λ d. refl) f
+          (on_next t (with_words s (store s.memory (Head kind) (head_word t.setting.sizes.tops (max q sweep.bound) j))) since sweep j (here (head_word t.setting.sizes.tops (max q sweep.bound) j)))
+      of false = unchanged t s since (Head kind) (sweep_goes sweep (sweeps.PushHead (kind_of t.setting.sizes j) j)) f w
 
-pub sweep_step : (t : Plan) (s : Shared) (since : ℕ → ℕ) (own : ℕ) (sweep : Sweep) (stage : SweepStage) → 1 ≤ t.setting.sizes.callers → sweep.scheme ≡ Announced own → EpochHolds t s since → SweepAt t s since sweep.low stage
-    → Swept t s since (after_access s.memory (sweep_wants_at sweep.scheme stage sweep.bound)) (sweep_accepts_at t.setting.sizes t.setting.last sweep (s.memory (word_of (sweep_wants_at sweep.scheme stage sweep.bound))) stage) (freed_at stage s.memory s.present)
-sweep_step t s since own sweep sweeps.ReadPhase some scheme f w = unchanged t s since Phase (phase_read t.setting.last sweep (s.memory Phase)) f (of (s.memory Phase == t.setting.last)) where
+pub sweep_step : (t : Plan) (s : Shared) (since : ℕ → ℕ) (own : ℕ) (sweep : Sweep) (stage : SweepStage) → 1 ≤ t.setting.sizes.callers → sweep.scheme ≡ Announced own → sweep.tops ≡ t.setting.sizes.tops → EpochHolds t s since → SweepAt t s since sweep.low stage
+    → Swept t s since (after_access s.memory (sweep_wants_at sweep.tops sweep.scheme stage sweep.bound)) (sweep_accepts_at t.setting.sizes t.setting.last sweep (s.memory (word_of (sweep_wants_at sweep.tops sweep.scheme stage sweep.bound))) stage) (freed_at stage s.memory s.present)
+sweep_step t s since own sweep sweeps.ReadPhase some scheme same f w = unchanged t s since Phase (phase_read t.setting.last sweep (s.memory Phase)) f (of (s.memory Phase == t.setting.last)) where
   of : (b : Bool) → SweepNext t s since (if b then sweep_ends sweep (swept.PhasesOver (s.memory Phase)) else sweep_goes sweep (sweeps.RaisePhase (s.memory Phase))).sweep
       (if b then sweep_ends sweep (swept.PhasesOver (s.memory Phase)) else sweep_goes sweep (sweeps.RaisePhase (s.memory Phase))).ended
   of true = tt
   of false = omega arith
-sweep_step t s since own sweep (sweeps.RaisePhase p) some scheme f w =
+sweep_step t s since own sweep (sweeps.RaisePhase p) some scheme same f w =
     let le : p ≤ s.memory Phase = w in
     let to : ℕ = if s.memory Phase == p then p + 1 else s.memory Phase in
     let up : s.memory Phase ≤ (if s.memory Phase == p then p + 1 else s.memory Phase) = grind (arith, nat_tests) in
     let most : p + 1 ≤ (if s.memory Phase == p then p + 1 else s.memory Phase) = grind (arith, nat_tests) in
     risen t s since (store s.memory Phase to) _ (phase_risen s.memory since to up f.holds.warning) (λ d. refl) f
     (record { raised = most; passed = λ c lt. absurd (omega arith) }, some)
-sweep_step t s since own sweep (sweeps.Warn c) some scheme f w =
+sweep_step t s since own sweep (sweeps.Warn c) some scheme same f w =
     subst (λ (scheme : Scheme). Swept t s since (after_access s.memory (warn_wanted scheme c sweep.bound)) (sweep_goes (record sweep { low = low_after scheme sweep.low (s.memory (word_of (warn_wanted scheme c sweep.bound))) }) (warn_next t.setting.sizes scheme c)) s.present) (sym scheme)
     (unchanged t s since (Warning c) (sweep_goes (record sweep { low = lower sweep.low (s.memory (Warning c)) }) (warn_next t.setting.sizes (Announced own) c)) f
     (heard_next t s since own (lower sweep.low (s.memory (Warning c))) c w.1 (passed_more t s since sweep.low c f w.0)))
-sweep_step t s since own sweep (sweeps.ReadHazard c r) some scheme f w = absurd w
-sweep_step t s since own sweep (sweeps.ReadStatus j) some scheme f w = unchanged t s since (Status j) (status_read t.setting.sizes sweep j (status_parts (s.memory (Status j)))) f (status_next t s since sweep j (status_parts (s.memory (Status j))) w)
-sweep_step t s since own sweep (sweeps.MakeReady j q) some scheme f w = frees t s since sweep j q f w
-sweep_step t s since own sweep (sweeps.PushHead kind j) some scheme f w = unchanged t s since (Head kind) (push_read sweep j (head_parts (s.memory (Head kind)))) f w
-sweep_step t s since own sweep (sweeps.PushLink j q top) some scheme f w =
+sweep_step t s since own sweep (sweeps.ReadHazard c r) some scheme same f w = absurd w
+sweep_step t s since own sweep (sweeps.ReadStatus j) some scheme same f w = unchanged t s since (Status j) (status_read t.setting.sizes sweep j (status_parts (s.memory (Status j)))) f (status_next t s since sweep j (status_parts (s.memory (Status j))) w)
+sweep_step t s since own sweep (sweeps.MakeReady j q) some scheme same f w = frees t s since sweep j q f w
+sweep_step t s since own sweep (sweeps.PushHead kind j) some scheme same f w = unchanged t s since (Head kind) (push_read sweep j (head_parts t.setting.sizes.tops (s.memory (Head kind)))) f w
+sweep_step t s since own sweep (sweeps.PushLink j q top) some scheme same f w =
     risen t s since (store s.memory (Link j) top) (sweep_goes sweep (sweeps.PushTop (kind_of t.setting.sizes j) j q top)) (link_risen s.memory since j top f.holds.warning) (λ d. refl) f (record { raised = w.raised; passed = w.passed })
-sweep_step t s since own sweep (sweeps.PushTop kind j q top) some scheme f w = pushes t s since sweep kind j q top f w
+sweep_step t s since own sweep (sweeps.PushTop kind j q top) some scheme same f w = pushes t s since sweep sweep.tops kind j q top same f w

@@ -21,7 +21,7 @@ use Rattle.source_machine.specs.declared.state.Running.{Running}
 use Rattle.source_machine.specs.declared.state.SourceCaller.{SourceCaller}
 use Rattle.source_machine.specs.declared.state.SourceMachine.{SourceMachine}
 use Rattle.source_machine.specs.declared.state.Stand.TheVariants.{InGenerator, InWrapUp}
-use Rattle.source_machine.specs.Proper.{IsProper}
+use Rattle.source_machine.specs.Proper.{IsProperFor}
 use Rattle.source_machine.specs.Step.{performed_by, generator_stand, goes_on, wrap_up_stop}
 use Rattle.caller_parts.specs.declared.routine.Routine.{Routine}
 use Rattle.caller_parts.specs.declared.routine.Routine.TheVariants.{At, InList as InCoreList}
@@ -151,7 +151,7 @@ module _ (t : Plan) (s : Shared) (since : ℕ → ℕ) (c : ℕ) (x : Caller) (p
 
 -- ---- a state beside its shadow
 
-module _ (t : Plan) (state : CoreState) (z : Shadow) (plan : IsPlan t) (text_proper : IsProper t.text) (shaped : IsShaped t.target t.setting state) (b : Beside t state z) where
+module _ (t : Plan) (state : CoreState) (z : Shadow) (plan : IsPlan t) (text_proper : IsProperFor t.setting.sizes.callers t.text) (shaped : IsShaped t.target t.setting state) (b : Beside t state z) where
   placed : (c : ℕ) → c < t.setting.sizes.callers → Placed b.v z c (point_at b.w.shared (b.w.who c))
   placed c lt = record { caller = b.caller c lt; memory = b.source; run = b.run c lt; unused = b.unused }
 

@@ -12,7 +12,7 @@ use Rattle.target_code.specs.declared.target.Target.{Target}
 use Rattle.target_code.specs.Bare.{bare}
 use Rattle.source_machine.specs.declared.state.SourceCaller.{SourceCaller}
 use Rattle.source_machine.specs.declared.state.SourceMachine.{SourceMachine}
-use Rattle.source_machine.specs.Proper.{IsProper}
+use Rattle.source_machine.specs.Proper.{IsProperFor}
 use Rattle.source_machine.specs.Step.{Performed, performed}
 use Rattle.caller_parts.specs.declared.routine.Routine.TheVariants.{At}
 use Rattle.caller_parts.specs.declared.setting.Reclamation.TheVariants.{Epochs}
@@ -49,7 +49,7 @@ pub record EpochSimulates (target : Target) (text : Text) (setting : Setting) (e
   pub refined : Refined target text setting events state
   pub bases : BasesAreResident target text setting events state
 
--- of a proper text as it is, with a setting of epochs that fits it
+-- of a text as it is that is proper for the setting's callers, with a setting of epochs that fits it
 abbrev pub RunsAreSimulated : Type 0
-RunsAreSimulated = (text : Text) (setting : Setting) (events : List CoreEvent) (state : CoreState) → IsWithinLimits text → IsNormal text → IsSetting setting → Fits (bare text) setting → setting.reclamation ≡ Epochs → IsProper text
+RunsAreSimulated = (text : Text) (setting : Setting) (events : List CoreEvent) (state : CoreState) → IsWithinLimits text → IsNormal text → IsSetting setting → Fits (bare text) setting → setting.reclamation ≡ Epochs → IsProperFor setting.sizes.callers text
     → core_run (bare text) setting events (core_start (bare text) setting) ≡ Some state → EpochSimulates (bare text) text setting events state

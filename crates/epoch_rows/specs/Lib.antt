@@ -4,3 +4,5 @@ pub mod HeldRows
 pub mod WindowRows
 pub mod WholeRows
 pub mod WrapUpRows
+pub mod CountedRows
+pub mod BegunRows

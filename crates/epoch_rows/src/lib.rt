@@ -1,6 +1,8 @@
 //! Rows worked out by hand under epochs: runs of texts as they are, told step by step, and whole runs by what is left at their end.
 #![tactic(auto)]
 
+ghost use Rattle.epoch_rows.specs.BegunRows.{BaseRows, BegunRows};
+ghost use Rattle.epoch_rows.specs.CountedRows.{CountedRows};
 ghost use Rattle.epoch_rows.specs.HeldRows.{HeldRows, LetGoRows};
 ghost use Rattle.epoch_rows.specs.LoneRows.{BackRows, LoneRows};
 ghost use Rattle.epoch_rows.specs.WholeRows.{AgainRows, WholeRows};
@@ -35,4 +37,17 @@ pub fn whole_rows()
 pub fn wrap_up_rows()
     ensures wrap_up { WrapUpRows }
     ensures tally { TallyRows }
+{}
+
+/// Which steps count a restart.
+#[tactic(auto, using(crate::proofs::Counted::counted_rows))]
+pub fn counted_rows()
+    ensures { CountedRows }
+{}
+
+/// Which calls have begun, and from where a load goes.
+#[tactic(auto, using(crate::proofs::Begun::begun_rows, crate::proofs::Begun::base_rows))]
+pub fn begun_rows()
+    ensures begun { BegunRows }
+    ensures base { BaseRows }
 {}

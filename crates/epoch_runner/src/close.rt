@@ -2,7 +2,9 @@
 
 ghost use Rattle.std.specs.Prelude.{◌≡◌, ◌≤◌, ◌+◌, ◌++◌, [], ◌∷◌, length, vec_capacity, IfOk};
 ghost use Rattle.target_code.specs.Bare.{bare};
+ghost use Rattle.caller_parts.specs.declared.setting.Reclamation.TheVariants.{Epochs};
 ghost use Rattle.caller_parts.specs.Settings.{Fits, IsSetting};
+ghost use Rattle.caller_parts.specs.declared.limits.TheConstants.{MOST_PHASES};
 ghost use Rattle.core_ground.specs.Running.{bare_pair};
 ghost use Rattle.word_runner.specs.Shown.{CameFrom};
 ghost use Rattle.word_runner.specs.table_rule.Rule.{callers_of};
@@ -38,7 +40,9 @@ fn with_room(
     arena: Arena,
     blank: Blank,
 ) -> Result<(EpochArena, EpochBlank), AllocError>
-    requires { callers ≡ callers_of arena.fixed }
+    requires callers { callers ≡ callers_of arena.fixed }
+    requires epochs { arena.fixed.setting.reclamation ≡ Epochs }
+    requires bare { arena.fixed.target ≡ bare_pair arena.fixed.target.source }
     ensures { IfOk result (λ p. (p.0 ≡ arena) × (p.1 ≡ blank)) }
 {
     match Vec::with_capacity(alloc, callers as usize) {
@@ -79,6 +83,7 @@ impl EpochArena {
         room: u32,
     ) -> Result<(EpochArena, EpochBlank), AllocError>
         requires setting { IsSetting (epoch_setting normal shape first_phase last_phase) }
+        requires last { last_phase ≤ MOST_PHASES }
         requires fits { Fits (bare normal) (epoch_setting normal shape first_phase last_phase) }
         ensures arena { IfOk result (λ p. p.0.fixed ≡ record { target = bare_pair normal; setting = epoch_setting normal shape first_phase last_phase }) }
         ensures blank { IfOk result (λ p. p.1 ≡ record { table = p.0.table; fixed = p.0.fixed; room = room; found = 0; accesses = 0; parts = 0 ∷ [] }) }

@@ -5,7 +5,7 @@ use Rattle.norm_lang.specs.Limits.{IsWithinLimits}
 use Rattle.norm_lang.specs.NormalForm.{IsNormal}
 use Rattle.target_code.specs.declared.target.Target.{Target}
 use Rattle.target_code.specs.Bare.{bare}
-use Rattle.source_machine.specs.Proper.{IsProper}
+use Rattle.source_machine.specs.Proper.{IsProperFor}
 use Rattle.caller_parts.specs.declared.call.Call.{Call}
 use Rattle.caller_parts.specs.declared.setting.Reclamation.TheVariants.{Epochs}
 use Rattle.caller_parts.specs.Settings.{Setting, Fits, IsSetting}
@@ -24,7 +24,7 @@ pub record FollowsEpochSource (target : Target) (text : Text) (setting : Setting
   pub simulated_so_far : AtEachState target setting events (EpochSimulates target text setting)
   pub begins : EpochBeginsOfScripts target text setting scripts fuel events state
 
--- each complete run of scripts does, if a proper text is run as it is with a setting of epochs that fits it
+-- each complete run of scripts does, if a text that is proper for the setting's callers is run as it is with a setting of epochs that fits it
 abbrev pub EpochRunsFollowSource : Type 0
 EpochRunsFollowSource = (text : Text) (setting : Setting) (scripts : List (List Call)) (fuel : ℕ) (events : List CoreEvent) (state : CoreState) → IsWithinLimits text → IsNormal text → IsSetting setting → Fits (bare text) setting
-    → setting.reclamation ≡ Epochs → IsProper text → IsCompleteRun (bare text) setting scripts fuel events state → FollowsEpochSource (bare text) text setting scripts fuel events state
+    → setting.reclamation ≡ Epochs → IsProperFor setting.sizes.callers text → IsCompleteRun (bare text) setting scripts fuel events state → FollowsEpochSource (bare text) text setting scripts fuel events state

@@ -117,19 +117,19 @@ module _ (text : Text) (scripts : List (List ScriptCall)) where
       let no : true ≡ false = sym there ∙ here in
       let f : ⊥ = cc in f
 
-  flaw_is : (events : List SourceEvent) (claims : List (List SourceReply)) (place number : ℕ) (event : SourceEvent) (new : Progress) → 1 ≤ length scripts → length scripts ≤ 8
+  flaw_is : (events : List SourceEvent) (claims : List (List SourceReply)) (place number : ℕ) (event : SourceEvent) (new : Progress) → 1 ≤ length scripts
       → walked text scripts 0 (first_progress text scripts) (take place events) ≡ Ok new → slice_get events place ≡ Some event
       → (other enabled : Bool) → begins_other text.ops scripts new.begun event ≡ other → is_enabled text new.state event ≡ enabled
       → cond other (Some 2) (cond enabled None (Some 1)) ≡ Some number → IsSo text scripts events claims (Rejected number place)
-  flaw_is events claims place number event new some few w stands true enabled o p h =
+  flaw_is events claims place number event new some w stands true enabled o p h =
       let two : number ≡ 2 = (let z : Some 2 ≡ Some number = h in cc) in
-      let run = is_run_of text scripts (take place events) new some few (walks text scripts (take place events) 0 (first_progress text scripts) new (many text scripts events) w) in
+      let run = is_run_of text scripts (take place events) new some (walks text scripts (take place events) 0 (first_progress text scripts) new (many text scripts events) w) in
       inr (inl (two, record { event = event; state = new.state; stands = stands; before = run; other = breaks_order (take place events) event new w o }))
-  flaw_is events claims place number event new some few w stands false false o p h =
+  flaw_is events claims place number event new some w stands false false o p h =
       let one : number ≡ 1 = (let z : Some 1 ≡ Some number = h in cc) in
-      let run = is_run_of text scripts (take place events) new some few (walks text scripts (take place events) 0 (first_progress text scripts) new (many text scripts events) w) in
+      let run = is_run_of text scripts (take place events) new some (walks text scripts (take place events) 0 (first_progress text scripts) new (many text scripts events) w) in
       inl (one, record { event = event; state = new.state; stands = stands; before = run; order = keeps_order (take place events) event new w o; refused = p })
-  flaw_is events claims place number event new some few w stands false true o p h = absurd (let f : ⊥ = (let z : None ≡ Some number = h in cc) in f)
+  flaw_is events claims place number event new some w stands false true o p h = absurd (let f : ⊥ = (let z : None ≡ Some number = h in cc) in f)
 
 -- ---- the caller that doesn't agree
 
@@ -190,14 +190,14 @@ module _ (progress : Progress) where
 not_both : (b : Bool) → b ≡ false → b ≡ true → ⊥
 not_both b isnt is = let z : false ≡ true = sym isnt ∙ is in let f : ⊥ = cc in f
 
-module _ (text : Text) (scripts : List (List ScriptCall)) (events : List SourceEvent) (claims : List (List SourceReply)) (some : 1 ≤ length scripts) (few : length scripts ≤ 8) (same : length claims ≡ length scripts) where
+module _ (text : Text) (scripts : List (List ScriptCall)) (events : List SourceEvent) (claims : List (List SourceReply)) (some : 1 ≤ length scripts) (same : length claims ≡ length scripts) where
   rejected_is : (number at : ℕ) (r : Result Progress Verdict) → walked text scripts 0 (first_progress text scripts) events ≡ r → found_after claims r ≡ Rejected number at
       → IsSo text scripts events claims (Rejected number at)
   rejected_is number at (Err verdict) w e =
       let stop = stops_at text scripts events 0 (first_progress text scripts) verdict w in
       let told : Rejected stop.number stop.place ≡ Rejected number at = sym (stop.same ∙ ap (Rejected stop.number) (from_zero text scripts events stop.place)) ∙ e in
       subst (λ (v : Verdict). IsSo text scripts events claims v) told
-      (flaw_is text scripts events claims stop.place stop.number stop.event stop.new some few stop.before stop.stands
+      (flaw_is text scripts events claims stop.place stop.number stop.event stop.new some stop.before stop.stands
       (begins_other text.ops scripts stop.new.begun stop.event) (is_enabled text stop.new.state stop.event) refl refl stop.flaw)
   rejected_is number at (Ok new) w e =
       let walk = walks text scripts events 0 (first_progress text scripts) new (many text scripts events) w in
@@ -209,7 +209,7 @@ module _ (text : Text) (scripts : List (List ScriptCall)) (events : List SourceE
         refl,
         record {
           state = new.state;
-          is_run = is_run_of text scripts events new some few walk;
+          is_run = is_run_of text scripts events new some walk;
           known = subst (λ n. d.place < n) same d.below;
           agree = λ k below. agrees_so text scripts events new k (listed (slice_get claims k)) (counted text scripts events new walk k)
               (subst (λ c. agrees_after new c (listed (slice_get claims k)) ≡ true) (from_zero text scripts events k) (d.agree k below));
@@ -258,7 +258,7 @@ module _ (text : Text) (scripts : List (List ScriptCall)) (events : List SourceE
       ∙ ap (Rejected 3) (zero_on c)
 
   is_so : (verdict : Verdict) → verdict_on text scripts events claims ≡ verdict → IsSo text scripts events claims verdict
-  is_so Accepted e = accepted_is text scripts events claims some few same (walked text scripts 0 (first_progress text scripts) events) refl e
+  is_so Accepted e = accepted_is text scripts events claims some same (walked text scripts 0 (first_progress text scripts) events) refl e
   is_so (Rejected number at) e = rejected_is number at (walked text scripts 0 (first_progress text scripts) events) refl e
 
   so_is : (verdict : Verdict) → IsSo text scripts events claims verdict → verdict_on text scripts events claims ≡ verdict
@@ -272,4 +272,4 @@ module _ (text : Text) (scripts : List (List ScriptCall)) (events : List SourceE
   ]
 
 pub verdicts_are_right : VerdictsAreRight
-verdicts_are_right text scripts events claims verdict some few same = (λ e. is_so text scripts events claims some few same verdict e, λ h. so_is text scripts events claims some few same verdict h)
+verdicts_are_right text scripts events claims verdict some same = (λ e. is_so text scripts events claims some same verdict e, λ h. so_is text scripts events claims some same verdict h)

@@ -43,10 +43,10 @@ module _ (text : Text) (scripts : List (List ScriptCall)) (events : List SourceE
   many = length-replicate (length scripts) 0
 
   -- events that show neither are a run that begins the calls in order
-  pub is_run_of : (new : Progress) → 1 ≤ length scripts → length scripts ≤ 8 → Walk text scripts (first_progress text scripts) events new
+  pub is_run_of : (new : Progress) → 1 ≤ length scripts → Walk text scripts (first_progress text scripts) events new
       → IsRunOf text scripts events new.state
-  is_run_of new some few walk = record {
-    run = record { some = some; few = few; runs = walk.run };
+  is_run_of new some walk = record {
+    run = record { some = some; runs = walk.run };
     order = λ c. subst (λ calls. are_first_calls text.ops (calls_begun c events) calls ≡ true) (all_left c) (walk.order c);
   }
 
@@ -80,14 +80,14 @@ module _ (text : Text) (scripts : List (List ScriptCall)) (events : List SourceE
   from_zero c = omega arith
 
   -- accepted is a run that begins the calls in order and agrees
-  pub accepted_is : (claims : List (List SourceReply)) → 1 ≤ length scripts → length scripts ≤ 8 → length claims ≡ length scripts
+  pub accepted_is : (claims : List (List SourceReply)) → 1 ≤ length scripts → length claims ≡ length scripts
       → (r : Result Progress Verdict) → walked text scripts 0 (first_progress text scripts) events ≡ r → found_after claims r ≡ Accepted → IsTrueRun text scripts events claims
-  accepted_is claims some few same (Err verdict) w e = absurd (stops text scripts events 0 (first_progress text scripts) verdict w e)
-  accepted_is claims some few same (Ok new) w e =
+  accepted_is claims some same (Err verdict) w e = absurd (stops text scripts events 0 (first_progress text scripts) verdict w e)
+  accepted_is claims some same (Ok new) w e =
       let walk : Walk text scripts (first_progress text scripts) events new = walks text scripts events 0 (first_progress text scripts) new many w in
       record {
         state = new.state;
-        is_run = is_run_of new some few walk;
+        is_run = is_run_of new some walk;
         agree = λ c below. agrees_so new c (listed (slice_get claims c)) (counted new walk c)
             (subst (λ d. agrees_after new d (listed (slice_get claims c)) ≡ true) (from_zero c)
             (all_agree new claims 0 e c (subst (λ n. c < n) (sym same) below)));
@@ -104,7 +104,7 @@ module _ (text : Text) (scripts : List (List ScriptCall)) (events : List SourceE
       (so_agrees w.0 c (listed (slice_get claims c)) (counted w.0 walk c) (agree c (subst (λ n. c < n) same below))))
 
 pub accepted_is_true : AcceptedIsTrue
-accepted_is_true text scripts events claims some few same = (
-  λ e. accepted_is text scripts events claims some few same (walked text scripts 0 (first_progress text scripts) events) refl e,
+accepted_is_true text scripts events claims some same = (
+  λ e. accepted_is text scripts events claims some same (walked text scripts 0 (first_progress text scripts) events) refl e,
   λ t. is_accepted_run text scripts events claims same t,
 )

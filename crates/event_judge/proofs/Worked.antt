@@ -284,4 +284,4 @@ of_null = refl
 -- what is accepted is told by the law
 of_a_pair_is_true : IsTrueRun pairs (sets_and_gets ∷ []) set_and_got ((replies.Nothing ∷ replies.Number 5 ∷ []) ∷ [])
 of_a_pair_is_true =
-    (accepted_is_true pairs (sets_and_gets ∷ []) set_and_got ((replies.Nothing ∷ replies.Number 5 ∷ []) ∷ []) (omega arith) (omega arith) refl).0 of_a_pair
+    (accepted_is_true pairs (sets_and_gets ∷ []) set_and_got ((replies.Nothing ∷ replies.Number 5 ∷ []) ∷ []) (omega arith) refl).0 of_a_pair

@@ -74,7 +74,7 @@ pub record IsTrueRun (text : Text) (scripts : List (List ScriptCall)) (events : 
 abbrev pub AcceptedIsTrue : Type 0
 AcceptedIsTrue =
     (text : Text) (scripts : List (List ScriptCall)) (events : List SourceEvent) (claims : List (List SourceReply))
-    → 1 ≤ length scripts → length scripts ≤ 8 → length claims ≡ length scripts
+    → 1 ≤ length scripts → length claims ≡ length scripts
     → (verdict_on text scripts events claims ≡ Accepted) ↔ IsTrueRun text scripts events claims
 
 -- ---- what is rejected
@@ -116,5 +116,5 @@ IsSo text scripts events claims (Rejected number at) =
 abbrev pub VerdictsAreRight : Type 0
 VerdictsAreRight =
     (text : Text) (scripts : List (List ScriptCall)) (events : List SourceEvent) (claims : List (List SourceReply)) (verdict : Verdict)
-    → 1 ≤ length scripts → length scripts ≤ 8 → length claims ≡ length scripts
+    → 1 ≤ length scripts → length claims ≡ length scripts
     → (verdict_on text scripts events claims ≡ verdict) ↔ IsSo text scripts events claims verdict

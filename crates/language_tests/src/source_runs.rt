@@ -4,7 +4,7 @@ ghost use Rattle.std.specs.Prelude.{◌≡◌, length};
 ghost use Rattle.source_machine.specs.Calls.{IsOfSourceRun};
 
 use norm_check::{Normal, check};
-use norm_lang::shipped_set;
+use norm_lang::{shipped_queue, shipped_set};
 use norm_parser::parse;
 use source_machine::{
     Pending, RunError, SourceEvent, SourceReply, SourceState, StepError, run, step,
@@ -88,6 +88,11 @@ fn normal_of(rt: &(impl Abort + AllocGlobal), text: &[u8]) -> Normal {
 
 fn list(rt: &(impl Abort + AllocGlobal)) -> Normal {
     let text = shipped_set(rt.alloc(), 1).expect(rt, "memory ran out");
+    check(rt.alloc(), text).expect(rt, "it is normal")
+}
+
+fn queue(rt: &(impl Abort + AllocGlobal)) -> Normal {
+    let text = shipped_queue(rt.alloc()).expect(rt, "memory ran out");
     check(rt.alloc(), text).expect(rt, "it is normal")
 }
 
@@ -225,4 +230,14 @@ fn the_next_access_is_told(rt: HostRuntime) {
     expect_pending(&rt, &normal_of(&rt, COUNTER), &counter);
     let inserting: [(&[u8], u8); 2] = [(b"0.", b's'), (b"0..", b'n')];
     expect_pending(&rt, &list(&rt), &inserting);
+    // The wrap-up of an enqueue loads the tail and what follows it; once the tail was swung, the wrap-up ends with an access of its own.
+    let enqueuing: [(&[u8], u8); 6] = [
+        (b"0..", b'n'),
+        (b"0..+.", b's'),
+        (b"0..+..", b's'),
+        (b"0..+....", b's'),
+        (b"0..+.....", b'e'),
+        (b"0..+......", b'i'),
+    ];
+    expect_pending(&rt, &queue(&rt), &enqueuing);
 }

@@ -11,12 +11,13 @@ use Rattle.phase_pools.specs.Accesses.{Loads, Stores}
 use Rattle.phase_pools.specs.Pools.{Claim, sweep_begun, claim_wants}
 use Rattle.caller_parts.specs.declared.routine.Routine.{Routine}
 use Rattle.caller_parts.specs.declared.routine.Routine.TheVariants.{Claims}
+use Rattle.caller_parts.specs.Settings.{Setting}
 use Rattle.caller_steps.specs.Entries.{idle_entry}
 use Rattle.caller_steps.specs.Wants.{wants}
 use Rattle.caller_steps.specs.After.{after}
 use Rattle.claim_laws.specs.CallSteps.{StepMade}
 use Rattle.claim_laws.specs.Causes.{IsSweepsPhaseLoad, EndsInFailedLook}
-use Rattle.law_rows.specs.CallRuns.{StepRows, CauseRows, EpochCauseRows, ClaimedRows, NewRows, waiting, wanting}
+use Rattle.law_rows.specs.CallRuns.{StepRows, CauseRows, EpochCauseRows, ClaimedRows, NewRows, announced, crowded, waiting, wanting}
 
 pub step_rows : StepRows
 unfolding wants after
@@ -36,7 +37,7 @@ abbrev no_step : StepMade
 no_step = record { entry = idle_entry 0; found = 0 }
 
 abbrev no_claim : Claim
-no_claim = record { kind = 0; stage = stages.ReadHead; sweeps = 0; sweep = sweep_begun Warned }
+no_claim = record { kind = 0; stage = stages.ReadHead; sweeps = 0; sweep = sweep_begun 8192 Warned }
 
 abbrev claim_of : Routine → Claim
 claim_of (Claims claim) = claim
@@ -76,14 +77,14 @@ member P [] step later all = all.0
 member P (x ∷ xs) step later all = member P xs step later all.1
 
 -- a failed look's claim has made two sweeps, and stands at the head
-ends_so : (steps : List StepMade) → EndsInFailedLook steps → (claim_at (last_of steps)).sweeps ≡ 2
-ends_so steps h =
+ends_so : (setting : Setting) (steps : List StepMade) → EndsInFailedLook setting steps → (claim_at (last_of steps)).sweeps ≡ 2
+ends_so setting steps h =
     let last : last_of steps ≡ h.1 = ap last_of h.2 ∙ last_snoc h.0 h.1 in
     let is : claim_at h.1 ≡ h.3.claim = ap claim_of h.3.claims in
     ap (λ (step : StepMade). (claim_at step).sweeps) last ∙ ap (λ (claim : Claim). claim.sweeps) is ∙ h.3.sweeps
 
-ends_there : (steps : List StepMade) → EndsInFailedLook steps → (claim_at (last_of steps)).stage ≡ stages.ReadHead
-ends_there steps h =
+ends_there : (setting : Setting) (steps : List StepMade) → EndsInFailedLook setting steps → (claim_at (last_of steps)).stage ≡ stages.ReadHead
+ends_there setting steps h =
     let last : last_of steps ≡ h.1 = ap last_of h.2 ∙ last_snoc h.0 h.1 in
     let is : claim_at h.1 ≡ h.3.claim = ap claim_of h.3.claims in
     ap (λ (step : StepMade). (claim_at step).stage) last ∙ ap (λ (claim : Claim). claim.stage) is ∙ h.3.looks
@@ -98,13 +99,13 @@ no_sweep = ((λ h. let is : _ ≡ Claims h.0 = h.1 in cc), ((λ h. let is : clai
 
 -- the third look of a claim whose second sweep has ended
 abbrev third_look : Claim
-third_look = record { kind = 0; stage = stages.ReadHead; sweeps = 2; sweep = record { scheme = Warned; stage = sweeps.ReadStatus 1; bound = 3; low = 3; gathered = [] } }
+third_look = record { kind = 0; stage = stages.ReadHead; sweeps = 2; sweep = record { scheme = Warned; tops = 8192; stage = sweeps.ReadStatus 1; bound = 3; low = 3; gathered = [] } }
 
 third_looks : (last_of (wanting 1000 46)).entry.routine ≡ Claims third_look
 unfolding wants after
 third_looks = refl
 
-third_empty : (head_parts (last_of (wanting 1000 46)).found).top ≡ 0
+third_empty : (head_parts 8192 (last_of (wanting 1000 46)).found).top ≡ 0
 unfolding wants after
 third_empty = refl
 
@@ -116,9 +117,9 @@ cause_rows = record {
   not_yet = λ h. member (λ (step : StepMade). IsSweepsPhaseLoad step → ⊥) h.before h.step h.later (subst (AllByRecursion (λ (step : StepMade). IsSweepsPhaseLoad step → ⊥)) h.among no_sweep) h.loads;
   not_last = λ h. let is : ◌≡◌ {A = ℕ} 1 2 = h.last in omega arith;
   full = (front_of (wanting 1000 46), last_of (wanting 1000 46), front_and_last (wanting 1000 46) refl, record { claim = third_look; claims = third_looks; sweeps = refl; looks = refl; empty = third_empty });
-  first_look = λ h. let is : ◌≡◌ {A = ℕ} 0 2 = ends_so (wanting 1000 2) h in omega arith;
-  second_look = λ h. let is : ◌≡◌ {A = ℕ} 1 2 = ends_so (wanting 1000 24) h in omega arith;
-  before_look = λ h. let is : stages.Sweeps ≡ stages.ReadHead = ends_there (wanting 1000 45) h in cc;
+  first_look = λ h. let is : ◌≡◌ {A = ℕ} 0 2 = ends_so (crowded 1000) (wanting 1000 2) h in omega arith;
+  second_look = λ h. let is : ◌≡◌ {A = ℕ} 1 2 = ends_so (crowded 1000) (wanting 1000 24) h in omega arith;
+  before_look = λ h. let is : stages.Sweeps ≡ stages.ReadHead = ends_there (crowded 1000) (wanting 1000 45) h in cc;
 }
 
 -- ---- causes under epochs
@@ -141,13 +142,13 @@ no_epoch_sweep = (
 )
 
 abbrev third_epoch_look : Claim
-third_epoch_look = record { kind = 0; stage = stages.ReadHead; sweeps = 2; sweep = record { scheme = Announced 0; stage = sweeps.ReadStatus 1; bound = 3; low = 3; gathered = [] } }
+third_epoch_look = record { kind = 0; stage = stages.ReadHead; sweeps = 2; sweep = record { scheme = Announced 0; tops = 8192; stage = sweeps.ReadStatus 1; bound = 3; low = 3; gathered = [] } }
 
 third_epoch_looks : (last_of (waiting 1000 16)).entry.routine ≡ Claims third_epoch_look
 unfolding wants after
 third_epoch_looks = refl
 
-third_epoch_empty : (head_parts (last_of (waiting 1000 16)).found).top ≡ 0
+third_epoch_empty : (head_parts 8192 (last_of (waiting 1000 16)).found).top ≡ 0
 unfolding wants after
 third_epoch_empty = refl
 
@@ -162,9 +163,9 @@ epoch_cause_rows = record {
     front_and_last (waiting 1000 16) refl,
     record { claim = third_epoch_look; claims = third_epoch_looks; sweeps = refl; looks = refl; empty = third_epoch_empty },
   );
-  first_look = λ h. let is : ◌≡◌ {A = ℕ} 0 2 = ends_so (waiting 1000 3) h in omega arith;
-  second_look = λ h. let is : ◌≡◌ {A = ℕ} 1 2 = ends_so (waiting 1000 10) h in omega arith;
-  before_look = λ h. let is : stages.Sweeps ≡ stages.ReadHead = ends_there (waiting 1000 15) h in cc;
+  first_look = λ h. let is : ◌≡◌ {A = ℕ} 0 2 = ends_so (announced 1000) (waiting 1000 3) h in omega arith;
+  second_look = λ h. let is : ◌≡◌ {A = ℕ} 1 2 = ends_so (announced 1000) (waiting 1000 10) h in omega arith;
+  before_look = λ h. let is : stages.Sweeps ≡ stages.ReadHead = ends_there (announced 1000) (waiting 1000 15) h in cc;
 }
 
 -- ---- claims and calls

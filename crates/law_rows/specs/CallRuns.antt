@@ -76,11 +76,11 @@ pub record CauseRows : Type 0 where
   pub not_yet : FoundLastPhase (crowded 1) 1 (wanting 1 2) → ⊥
   pub not_last : FoundLastPhase (crowded 2) 1 (wanting 2 3) → ⊥
   -- its second, 24th and 46th steps are the looks, each of which finds no slot on top: the last one follows two sweeps
-  pub full : EndsInFailedLook (wanting 1000 46)
-  pub first_look : EndsInFailedLook (wanting 1000 2) → ⊥
-  pub second_look : EndsInFailedLook (wanting 1000 24) → ⊥
+  pub full : EndsInFailedLook (crowded 1000) (wanting 1000 46)
+  pub first_look : EndsInFailedLook (crowded 1000) (wanting 1000 2) → ⊥
+  pub second_look : EndsInFailedLook (crowded 1000) (wanting 1000 24) → ⊥
   -- and the step before it is a sweep's
-  pub before_look : EndsInFailedLook (wanting 1000 45) → ⊥
+  pub before_look : EndsInFailedLook (crowded 1000) (wanting 1000 45) → ⊥
 
 -- the same under epochs: the code of the text itself
 abbrev pub bare_put_in : TargetOp
@@ -91,8 +91,11 @@ bare_put_in = record {
   wrapup = Plain instr.ReturnNone ∷ [];
 }
 
+abbrev pub announced : ℕ → Setting
+announced last = record (crowded last) { reclamation = Epochs }
+
 abbrev pub waiting : ℕ → ℕ → List StepMade
-waiting last n = steps_of_call (record later_target { ops = bare_put_in ∷ [] }) (record (crowded last) { reclamation = Epochs }) (calls 0 (call_of 0 0) n) 0 0
+waiting last n = steps_of_call (record later_target { ops = bare_put_in ∷ [] }) (announced last) (calls 0 (call_of 0 0) n) 0 0
 
 pub record EpochCauseRows : Type 0 where
   -- its fifth step is the sweep's load of the phase, after the look and the withdrawal of what it had announced. Its first step loaded the
@@ -100,10 +103,10 @@ pub record EpochCauseRows : Type 0 where
   pub over : FoundLastPhase (crowded 1) 1 (waiting 1 5)
   pub not_yet : FoundLastPhase (crowded 1) 1 (waiting 1 4) → ⊥
   -- the looks are its third, tenth and 16th steps: a sweep loads the two warnings and one status
-  pub full : EndsInFailedLook (waiting 1000 16)
-  pub first_look : EndsInFailedLook (waiting 1000 3) → ⊥
-  pub second_look : EndsInFailedLook (waiting 1000 10) → ⊥
-  pub before_look : EndsInFailedLook (waiting 1000 15) → ⊥
+  pub full : EndsInFailedLook (announced 1000) (waiting 1000 16)
+  pub first_look : EndsInFailedLook (announced 1000) (waiting 1000 3) → ⊥
+  pub second_look : EndsInFailedLook (announced 1000) (waiting 1000 10) → ⊥
+  pub before_look : EndsInFailedLook (announced 1000) (waiting 1000 15) → ⊥
 
 -- ---- claims
 

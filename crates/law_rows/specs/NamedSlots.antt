@@ -60,5 +60,5 @@ pub record TouchedRows : Type 0 where
   pub cradle : Untouched (held_by (record (idle_entry 0) { cradles = cradles_of 0 0 0 4 })) → ⊥
   -- that is retired, that a claim has taken, and that a sweep has gathered
   pub retired : Untouched (routine_alone (Retires (record { slot = 4; stage = retiring.ReadPhase }) retires.Next)) → ⊥
-  pub taken : Untouched (routine_alone (Claims (record { kind = 0; stage = stages.StoreUsed 1 4; sweeps = 0; sweep = sweep_begun Warned }))) → ⊥
-  pub gathered : Untouched (routine_alone (Claims (record { kind = 0; stage = stages.Sweeps; sweeps = 0; sweep = record { scheme = Warned; stage = sweeps.ReadStatus 4; bound = 2; low = 2; gathered = 1 ∷ 4 ∷ [] } }))) → ⊥
+  pub taken : Untouched (routine_alone (Claims (record { kind = 0; stage = stages.StoreUsed 1 4; sweeps = 0; sweep = sweep_begun 8192 Warned }))) → ⊥
+  pub gathered : Untouched (routine_alone (Claims (record { kind = 0; stage = stages.Sweeps; sweeps = 0; sweep = record { scheme = Warned; tops = 8192; stage = sweeps.ReadStatus 4; bound = 2; low = 2; gathered = 1 ∷ 4 ∷ [] } }))) → ⊥

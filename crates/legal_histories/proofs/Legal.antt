@@ -116,7 +116,7 @@ legal A step action Same fits first same text rules callers law events state run
     let a = law events state run in
     let (end, ends) = a.legal in
     let known = λ (xs : List SourceEvent) (m : SourceMachine) (runs : source_run text xs (source_start text callers) ≡ Some m).
-    known_of A step first text rules callers xs m (law xs m (record { some = run.some; few = run.few; runs = runs })) in
+    known_of A step first text rules callers xs m (law xs m (record { some = run.some; runs = runs })) in
     has_order A step action Same fits first nothing_shared (deeds_in (book_of text rules callers events).slots) history end same ends
     (λ c. ⊎_elim
     (λ (lt : c < callers).

@@ -7,12 +7,12 @@ ghost use Rattle.legal_histories.specs.Told.{SetRunsAreLegal, QueueRunsAreLegal}
 pub fn set_runs_are_legal()
     ensures { SetRunsAreLegal }
 {
-    set_laws::laws::set_answers();
+    set_laws::laws::source_sets_answer();
 }
 
 /// The same of the queue's text.
 pub fn queue_runs_are_legal()
     ensures { QueueRunsAreLegal }
 {
-    queue_laws::laws::queue_answers();
+    queue_laws::laws::source_queues_answer();
 }

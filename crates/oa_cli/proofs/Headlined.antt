@@ -2,14 +2,13 @@
 use Rattle.std.proofs.Common.{◌≡◌, ◌⊎◌, ◌≢◌, ℕ, List, [], ◌++◌, Option, Some, None, inl, inr, ⊎_elim, refl, sym, ap, subst, ◌∙◌}
 use Rattle.std.specs.Option.{unwrap_or}
 use Rattle.std.specs.Io.KnownBytes.{Appends}
-use Rattle.std.specs.Prelude.{Bool, true, false, if◌then◌else◌}
 use Rattle.oa_text.specs.Causes.{Rose}
 use Rattle.norm_lang.specs.NormalForm.{IsNormal}
 use Rattle.documents.specs.declared.document.Document.{Document}
 use Rattle.documents.specs.DocumentRead.{IsDocument}
 use Rattle.script_plans.specs.declared.fault.RunFault.TheVariants as faults
 use Rattle.document_runs.specs.declared.report.Report.{Report}
-use Rattle.document_runs.specs.Texts.{report_text, is_partial}
+use Rattle.document_runs.specs.Texts.{report_text}
 use Rattle.core_runs.specs.Machine.{CoreState, CoreEvent}
 use Rattle.script_driver.specs.report_laws.EpochLines.{EpochsTellOf}
 use Rattle.script_driver.specs.report_laws.EpochSources.{HasEpochSourceRun}
@@ -129,13 +128,6 @@ appended None new written text told added = let no : None ≡ Some written = tol
 appended (Some held) None written text told added = absurd added
 appended (Some held) (Some holds) written text told added = ap (λ (l : List ℕ). Some l) added ∙ ap (λ (o : Option (List ℕ)). Some (unwrap_or o [] ++ text)) told
 
-done_or_partial : (short : Bool) → ((if short then statuses.Partial else statuses.Done) ≡ statuses.Done) ⊎ ((if short then statuses.Partial else statuses.Done) ≡ statuses.Partial)
-done_or_partial true = inr refl
-done_or_partial false = inl refl
-
-abbrev IsDoneOrPartial : Status → Type 0
-IsDoneOrPartial status = (status ≡ statuses.Done) ⊎ (status ≡ statuses.Partial)
-
 done : (command : Command) (old new held holds : Option (List ℕ)) (before now earlier later : ℕ) (verdict : Verdict) (status : Status) (given : Premises command old held before now earlier later status)
     → IsOfSource DOCUMENT_LIMIT (IsOfBytes command) old new before now verdict → status ≡ status_for verdict → Appends held holds (text_for verdict) → IsPrinted command given.bytes_told.document given.written holds status
 done command old new held holds before now earlier later verdict status given judged same added =
@@ -143,7 +135,7 @@ done command old new held holds before now earlier later verdict status given ju
     record {
       report = it.report;
       printed = appended held holds given.written (report_text it.report) given.text_told (subst (λ (v : Verdict). Appends held holds (text_for v)) it.same added);
-      answered = subst IsDoneOrPartial (sym (same ∙ ap status_for it.same)) (done_or_partial (is_partial it.report));
+      answered = same ∙ ap status_for it.same;
       promise = promised command given.bytes_told.document it.report given.calls it.answered;
     }
 

@@ -48,7 +48,7 @@ none_rose : (before now : ℕ) → now ≡ before → before < now → ⊥
 none_rose before now same rose = omega arith
 
 -- a verdict other than that of a fault of reading leaves the source's count
-source_told : (limit : ℕ) (Says : List ℕ → Verdict → Type 0) (old new : Option (List ℕ)) (before now : ℕ) (verdict : Verdict)
+pub source_told : (limit : ℕ) (Says : List ℕ → Verdict → Type 0) (old new : Option (List ℕ)) (before now : ℕ) (verdict : Verdict)
     → IsOfSource limit Says old new before now verdict → before < now → status_for verdict ≡ statuses.ReadFault
 source_told limit Says old new before now verdicts.ReadFault judged rose = refl
 source_told limit Says old new before now verdicts.Memory judged rose = absurd (none_rose before now judged.0 rose)
@@ -62,7 +62,7 @@ read_told (Some requests.OfCertificate) old new before now verdict judged rose =
 read_told (Some (requests.Workload count callers)) old new before now verdict judged rose = absurd (none_rose before now judged.1.faults rose)
 
 -- each fault is told, if a fault of reading is the verdict
-told_by : (before now : ℕ) (verdict : Verdict) (held holds : Option (List ℕ)) (earlier later : ℕ) (result : Status)
+pub told_by : (before now : ℕ) (verdict : Verdict) (held holds : Option (List ℕ)) (earlier later : ℕ) (result : Status)
     → (before < now → status_for verdict ≡ statuses.ReadFault)
     → IsSaid held holds earlier later (text_for verdict) (status_for verdict) result → FaultsAreTold before now earlier later result
 told_by before now verdict held holds earlier later result read said = record {

@@ -17,8 +17,8 @@
 --     run_laws/specs/Source                      FollowsSource
 --     run_laws/specs/Each                        AtEachState
 --
--- and for `epochs` by EpochsTellOf (script_driver/specs/report_laws/EpochLines), HasEpochSourceRun (EpochSources), FollowsSource of
--- epoch_runs/specs/Source, Simulates (epoch_relation/specs/Simulated)
+-- and for `epochs` by EpochsTellOf (script_driver/specs/report_laws/EpochLines), HasEpochSourceRun (EpochSources),
+-- FollowsEpochSource (epoch_runs/specs/Source), EpochSimulates (epoch_relation/specs/Simulated)
 --
 -- and on from there to what each part says:
 --
@@ -41,7 +41,7 @@ use Rattle.document_runs.specs.declared.report.Report.{Report}
 use Rattle.document_runs.specs.Reports.{report_of}
 use Rattle.document_runs.specs.Epochs.{IsCompleteEpochRunOf}
 use Rattle.document_runs.specs.Runs.{IsCompleteRunOf, replay_given}
-use Rattle.document_runs.specs.Texts.{report_text}
+use Rattle.document_runs.specs.Texts.{is_partial, report_text}
 use Rattle.script_driver.specs.report_laws.EpochLines.{CountsRestarts, IsTrueEpochLine}
 use Rattle.script_driver.specs.report_laws.EpochSources.{HasEpochSourceRun}
 use Rattle.script_driver.specs.report_laws.Legal.{HasLegalHistory}
@@ -54,6 +54,7 @@ use Rattle.command_input.specs.declared.command.Command.TheVariants as commands
 use Rattle.command_input.specs.declared.command.Request.{Request}
 use Rattle.command_input.specs.declared.command.Request.TheVariants as requests
 use Rattle.oa_cli.specs.Complete.{HasAccepted}
+use Rattle.oa_cli.specs.verdicts.Telling.{status_if}
 
 -- ---- the premises
 
@@ -112,8 +113,9 @@ pub record Promise (command : Command) (document : Document) (report : Report) :
 
 -- Under epochs the run is one of the document's text as it is. If the text is proper, or is one that a `use` line names (`source`), the
 -- printed replies are those of one run of it on memory that is never recycled, and the base of each load is null or resident: `lines` of
--- HasEpochSourceRun, and `simulated` and `begins` of its `run`. Of a text that a `use` line names the printed calls have a legal history
--- (`legal`), as for `run`. Each caller has counted its restarts (`restarts`).
+-- HasEpochSourceRun, and of its `run` `simulated`, `begins`, and `simulated_so_far`, which says it of each state on the way, as each load is made in
+-- one. Of a text that a `use` line names the printed calls have a legal history (`legal`), as for `run`. Each caller has counted its restarts
+-- (`restarts`).
 pub record EpochPromise (document : Document) (report : Report) : Type 0 where
   pub events : List CoreEvent
   pub state : CoreState
@@ -128,11 +130,12 @@ abbrev pub Promised : Command → Document → Report → Type 0
 Promised commands.Epochs document report = EpochPromise document report
 Promised command document report = Promise command document report
 
--- the whole text of a report was written, of which this is so, and the status tells whether each call returned
+-- the whole text of a report was written, of which this is so, and the status tells whether each call returned: `Partial` if some line is
+-- short, else `Done`
 pub record IsPrinted (command : Command) (document : Document) (written : List ℕ) (holds : Option (List ℕ)) (status : Status) : Type 0 where
   pub report : Report
   pub printed : holds ≡ Some (written ++ report_text report)
-  pub answered : (status ≡ statuses.Done) ⊎ (status ≡ statuses.Partial)
+  pub answered : status ≡ status_if (is_partial report)
   pub promise : Promised command document report
 
 -- ---- the whole

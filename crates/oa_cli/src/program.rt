@@ -29,7 +29,7 @@ use std::thread::Threads;
 use std::{env, io};
 
 /// The words after the program's name, or `None` if memory runs out. If they aren't text, there are no words.
-fn command_words(alloc: Global, args: io::Result<Args>) -> Option<Vec<String>>
+pub fn command_words(alloc: Global, args: io::Result<Args>) -> Option<Vec<String>>
     ensures had { IfOk args (λ args. IfSome result (λ words. words.items ≡ drop 1 (into_iter_items args))) }
     ensures failed { IfErr args (λ error. MatchOption result (error_kind error ≡ OutOfMemory) (λ words. (error_kind error ≢ OutOfMemory) × (words.items ≡ []))) }
 {

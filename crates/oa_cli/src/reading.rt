@@ -11,7 +11,7 @@ use oa_text::Source;
 use std::alloc::Global;
 
 /// All bytes of a source, which are fewer than `limit`, or why it was not read to its end.
-pub(crate) fn read_source<S: Source>(
+pub fn read_source<S: Source>(
     alloc: Global,
     input: &mut S,
     limit: usize,

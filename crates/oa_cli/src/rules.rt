@@ -8,7 +8,7 @@ use norm_lang::text::Text;
 use std::alloc::Global;
 
 /// Judges a copy of a text by the rules.
-pub(crate) fn judge_text(alloc: Global, text: &Text) -> Result<Normal, CheckError>
+pub fn judge_text(alloc: Global, text: &Text) -> Result<Normal, CheckError>
     requires { IsWithinLimits text.now }
     ensures { IsChecked text.now result }
 {

@@ -55,7 +55,7 @@ fn judge_document<R: Threads + Sync, G: Gate + Sync>(
 }
 
 /// The verdict on a document whose text breaks a rule.
-pub(crate) fn refused(document: Document, refusal: Refusal) -> Verdict
+pub fn refused(document: Document, refusal: Refusal) -> Verdict
     ensures { result ≡ Verdict.Refused document.text refusal }
 {
     Verdict::Refused(document.text, refusal)

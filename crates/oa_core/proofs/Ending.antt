@@ -15,11 +15,11 @@ use Rattle.run_laws.proofs.Following.{follows}
 use Rattle.oa_core.specs.States.{RunsInRow}
 use Rattle.oa_core.specs.declared.progress.Stop.{Stop}
 use Rattle.oa_core.specs.declared.progress.Stop.TheVariants as stops
-use Rattle.oa_core.specs.Finals.{Final, core_of, replay_limit, replay_of, LeadsTo, AnswersReplay, EndsRun}
+use Rattle.oa_core.specs.Finals.{Final, core_of, replay_of, refusal_of, LeadsTo, IsReplayRefused, AnswersTurns, AnswersReplay, EndsRun}
 use Rattle.replay_steps.specs.Entries.{HasRooms}
 use Rattle.replay_steps.specs.Turns.{made_to, refused}
 use Rattle.oa_core.specs.declared.replaying.ReplayError.{ReplayError}
-use Rattle.oa_core.specs.Shown.{Terms, Progress, replay_by, shown, bare, bared, told, refusal_of, error_of, final_of, answer_of}
+use Rattle.oa_core.specs.Shown.{Progress, shown, bare, bared, told, final_of, end_of, answer_of}
 use Rattle.core_ground.proofs.Runnable.{runnable}
 
 complete_end : (pair : Paired) (setting : Setting) (scripts : List (List Call)) (fuel : ℕ) (schedule : List Turn) (r : Replaying) (final : Final) → IsSound pair → IsSetting setting → Fits pair.target setting
@@ -64,27 +64,28 @@ leads_there : (now : Progress) (fuel : ℕ) (given : Result Replaying Refusal) �
 leads_there now fuel (Ok r) is = (ap (λ (x : Replaying). x.state) (same_end now r is), refl)
 leads_there now fuel (Err refusal) is = absurd (let no : made_to (shown now) ≡ refused refusal = is in cc)
 
-refused_there : (stop : Stop) (fuel : ℕ) (given : Result Replaying Refusal) → refused (refusal_of stop) ≡ bared given → AnswersReplay (Err (error_of stop)) fuel given
-refused_there (stops.StepOfNobody steps) fuel (Ok r) is = absurd (let no : refused (StepOfNobody steps) ≡ made_to (bare r) = is in cc)
-refused_there (stops.StepOfNobody steps) fuel (Err refusal) is = let same : refused (StepOfNobody steps) ≡ refused refusal = is in cc
-refused_there (stops.LongReplay steps) fuel (Ok r) is = absurd (let no : refused (LongReplay steps) ≡ made_to (bare r) = is in cc)
-refused_there (stops.LongReplay steps) fuel (Err refusal) is = let same : refused (LongReplay steps) ≡ refused refusal = is in cc
+refused_there : (refusal : Refusal) (given : Result Replaying Refusal) → refused refusal ≡ bared given → IsReplayRefused refusal given
+refused_there refusal (Ok r) is = absurd (let no : refused refusal ≡ made_to (bare r) = is in cc)
+refused_there refusal (Err other) is = let same : refused refusal ≡ refused other = is in cc
 
--- what was made is what is answered
-pub answers_so : (made : Result (Unit {0}) Stop) (now : Progress) (fuel : ℕ) (given : Result Replaying Refusal) → told made now ≡ bared given → AnswersReplay (answer_of made now fuel) fuel given
-answers_so (Ok done) now fuel given is = leads_there now fuel given is
-answers_so (Err stop) now fuel given is = refused_there stop fuel given is
+-- what was made is how it ends
+pub ends_so : (made : Result (Unit {0}) Stop) (now : Progress) (fuel : ℕ) (given : Result Replaying Refusal) → told made now ≡ bared given → AnswersTurns (end_of made now fuel) fuel given
+ends_so (Ok done) now fuel given is = leads_there now fuel given is
+ends_so (Err stop) now fuel given is = refused_there (refusal_of stop) given is
 
-pub rooms_so : (made : Result (Unit {0}) Stop) (now : Progress) (fuel : ℕ) (scripts : List (List Call)) → HasRooms scripts now.entries → IfOk (answer_of made now fuel) (λ s. HasRooms scripts s.entries)
+pub rooms_so : (made : Result (Unit {0}) Stop) (now : Progress) (fuel : ℕ) (scripts : List (List Call)) → HasRooms scripts now.entries → IfOk (end_of made now fuel) (λ s. HasRooms scripts s.entries)
 rooms_so (Ok done) now fuel scripts rooms = rooms
 rooms_so (Err stop) now fuel scripts rooms = tt
 
--- by the limit of every replay, of the pair that the terms tell
-pub answers_by : (t : Terms) (pair : Paired) (schedule : List Turn) (o : Result Final ReplayError) → t.pair ≡ pair → t.limit ≡ replay_limit → AnswersReplay o t.fuel (replayed (replay_by t) schedule)
-    → AnswersReplay o t.fuel (replayed (replay_of pair.target t.setting t.scripts t.fuel) schedule)
-answers_by t pair schedule o same limit given =
-    subst (λ (most : ℕ). AnswersReplay o t.fuel (replayed (record { target = pair.target; setting = t.setting; scripts = t.scripts; fuel = t.fuel; limit = most }) schedule)) limit
-    (subst (λ (p : Paired). AnswersReplay o t.fuel (replayed (record { target = p.target; setting = t.setting; scripts = t.scripts; fuel = t.fuel; limit = t.limit }) schedule)) same given)
+-- and what is answered
+pub answers_so : (ended : Result Final Stop) (fuel : ℕ) (given : Result Replaying Refusal) → AnswersTurns ended fuel given → AnswersReplay (answer_of ended) fuel given
+answers_so (Ok final) fuel given leads = leads
+answers_so (Err (stops.StepOfNobody steps)) fuel given stopped = stopped
+answers_so (Err (stops.LongReplay steps)) fuel given stopped = stopped
+
+pub rooms_stay : (ended : Result Final Stop) (scripts : List (List Call)) → IfOk ended (λ s. HasRooms scripts s.entries) → IfOk (answer_of ended) (λ s. HasRooms scripts s.entries)
+rooms_stay (Ok final) scripts rooms = rooms
+rooms_stay (Err stop) scripts rooms = tt
 
 -- ---- every state
 

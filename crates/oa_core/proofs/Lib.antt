@@ -4,5 +4,7 @@ mod Ending
 mod Entering
 mod Looping
 mod Moving
+mod Calling
 mod Halting
 mod Longer
+mod WorkedLimits

@@ -76,7 +76,7 @@ moves_run target setting words later next c entries others can moves = of (slice
 
 -- ---- what holds all the while
 
-begun_room : (by : Reclamation) (next : Move) (e : RoomyEntry) → (begun by next e).room ≡ e.room
+pub begun_room : (by : Reclamation) (next : Move) (e : RoomyEntry) → (begun by next e).room ≡ e.room
 begun_room by (moves.Takes call) e = refl
 begun_room by moves.GoesOn e = refl
 

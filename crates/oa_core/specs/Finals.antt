@@ -3,7 +3,7 @@ use Rattle.std.specs.Prelude.{◌≡◌, ℕ, Bool, false, List, map, Option, So
 use Rattle.schedule_turns.specs.declared.turn.Turn.{Turn}
 use Rattle.norm_lang.specs.declared.text.Text.{Text}
 use Rattle.target_code.specs.declared.target.Target.{Target}
-use Rattle.source_machine.specs.Proper.{IsProper}
+use Rattle.source_machine.specs.Proper.{IsProperFor}
 use Rattle.caller_parts.specs.declared.call.Call.{Call}
 use Rattle.caller_parts.specs.Settings.{Setting}
 use Rattle.caller_parts.specs.declared.setting.Reclamation.TheVariants.{Optimistic}
@@ -15,6 +15,8 @@ use Rattle.core_runs.specs.core_sound.Sound.{IsSound, StaysInRow}
 use Rattle.run_laws.specs.Source.{FollowsSource}
 pub use Rattle.replay_steps.specs.Entries.{core_part}
 use Rattle.oa_core.specs.declared.limits.TheConstants.{MOST_STEPS}
+use Rattle.oa_core.specs.declared.progress.Stop.{Stop}
+use Rattle.oa_core.specs.declared.progress.Stop.TheVariants as stops
 use Rattle.oa_core.specs.declared.replaying.ReplayError.{ReplayError}
 use Rattle.oa_core.specs.declared.replaying.ReplayError.TheVariants as errors
 
@@ -58,6 +60,16 @@ abbrev pub IsReplayRefused : Refusal → Result Replaying Refusal → Type 0
 IsReplayRefused refusal (Ok r) = ⊥
 IsReplayRefused refusal (Err other) = other ≡ refusal
 
+-- why it stopped, as it is refused
+abbrev pub refusal_of : Stop → Refusal
+refusal_of (stops.StepOfNobody steps) = StepOfNobody steps
+refusal_of (stops.LongReplay steps) = LongReplay steps
+
+-- a replay that is ready answers what its turns give
+abbrev pub AnswersTurns : Result Final Stop → ℕ → Result Replaying Refusal → Type 0
+AnswersTurns (Ok final) fuel given = LeadsTo final fuel given
+AnswersTurns (Err stop) fuel given = IsReplayRefused (refusal_of stop) given
+
 -- a replay answers what its turns give; that memory ran out says nothing of them
 abbrev pub AnswersReplay : Result Final ReplayError → ℕ → Result Replaying Refusal → Type 0
 AnswersReplay (Ok final) fuel given = LeadsTo final fuel given
@@ -68,7 +80,7 @@ AnswersReplay (Err (errors.LongReplay steps)) fuel given = IsReplayRefused (Long
 -- ---- runs of scripts
 
 -- the turns give a complete run of the scripts, which ends so: each caller's entry belongs, each word is lawful, and nothing leads out of
--- the row. If the text is proper, under optimistic access, the run is one of the text on memory that is never recycled
+-- the row. If the text is proper for the setting's callers, under optimistic access, the run is one of the text on memory that is never recycled
 pub record EndsRun (target : Target) (text : Text) (setting : Setting) (scripts : List (List Call)) (fuel : ℕ) (schedule : List Turn) (final : Final) : Type 0 where
   pub replaying : Replaying
   pub given : replayed (replay_of target setting scripts fuel) schedule ≡ Ok replaying
@@ -76,4 +88,4 @@ pub record EndsRun (target : Target) (text : Text) (setting : Setting) (scripts 
   pub complete : IsCompleteRun target setting scripts fuel replaying.events (core_of final)
   pub sound : IsSound target setting (core_of final)
   pub stays : StaysInRow target setting (core_of final)
-  pub source : setting.reclamation ≡ Optimistic → IsProper text → FollowsSource target text setting scripts replaying.events (core_of final)
+  pub source : setting.reclamation ≡ Optimistic → IsProperFor setting.sizes.callers text → FollowsSource target text setting scripts replaying.events (core_of final)

@@ -2,3 +2,4 @@ pub mod States
 pub mod Finals
 pub mod Stops
 pub mod Shown
+pub mod Calls

@@ -19,7 +19,8 @@ use Rattle.core_entries.specs.Steps.{WordsSound, StepIs}
 use Rattle.oa_core.specs.declared.replaying.ReplayError.{ReplayError}
 use Rattle.oa_core.specs.declared.replaying.ReplayError.TheVariants as errors
 use Rattle.replay_steps.specs.Entries.{core_part, IsShort, HasRooms, AllBelongTo}
-use Rattle.oa_core.specs.Finals.{Final}
+pub use Rattle.oa_core.specs.Finals.{refusal_of}
+use Rattle.oa_core.specs.Finals.{Final, replay_limit}
 
 -- what is replayed
 pub record Terms : Type 0 where
@@ -31,6 +32,10 @@ pub record Terms : Type 0 where
 
 abbrev pub replay_by : Terms → Replay
 replay_by t = record { target = t.pair.target; setting = t.setting; scripts = t.scripts; fuel = t.fuel; limit = t.limit }
+
+-- under the limit of every replay
+abbrev pub terms_of : Paired → Setting → List (List Call) → ℕ → Terms
+terms_of pair setting scripts fuel = record { pair = pair; setting = setting; scripts = scripts; fuel = fuel; limit = replay_limit }
 
 -- the words, the entries, and how many steps were made
 pub record Progress : Type 0 where
@@ -48,11 +53,6 @@ bare r = record r { events = [] }
 abbrev pub bared : Result Replaying Refusal → Result Replaying Refusal
 bared (Ok r) = Ok (bare r)
 bared (Err refusal) = Err refusal
-
--- what the code tells of it
-abbrev pub refusal_of : Stop → Refusal
-refusal_of (stops.StepOfNobody steps) = StepOfNobody steps
-refusal_of (stops.LongReplay steps) = LongReplay steps
 
 abbrev pub told : Result (Unit {0}) Stop → Progress → Result Replaying Refusal
 told (Ok done) now = Ok (shown now)
@@ -126,7 +126,12 @@ error_of (stops.LongReplay steps) = errors.LongReplay steps
 abbrev pub final_of : Progress → ℕ → Final
 final_of now fuel = record { words = now.words; entries = now.entries; fuel = fuel }
 
--- what is answered by how it has ended
-abbrev pub answer_of : Result (Unit {0}) Stop → Progress → ℕ → Result Final ReplayError
-answer_of (Ok done) now fuel = Ok (final_of now fuel)
-answer_of (Err stop) now fuel = Err (error_of stop)
+-- how it has ended
+abbrev pub end_of : Result (Unit {0}) Stop → Progress → ℕ → Result Final Stop
+end_of (Ok done) now fuel = Ok (final_of now fuel)
+end_of (Err stop) now fuel = Err stop
+
+-- what is answered then
+abbrev pub answer_of : Result Final Stop → Result Final ReplayError
+answer_of (Ok final) = Ok final
+answer_of (Err stop) = Err (error_of stop)

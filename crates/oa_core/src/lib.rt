@@ -1,6 +1,7 @@
 //! The run of scripts that the turns of a schedule give.
 #![tactic(auto)]
 
+mod calls;
 pub mod laws;
 mod limits;
 mod progress;
@@ -11,6 +12,7 @@ mod turns;
 pub use caller_steps::{Call, Reply, Setting, SettingFault};
 pub use core_entries::{Entry, Sign, Signs};
 pub use core_ground::{LoadedTarget, PlainWords, Port};
-pub use replaying::{CallList, CoreState, ReplayError, replay};
+pub use progress::Stop;
+pub use replaying::{CallList, CoreState, ReadyReplay, ReplayError, replay};
 pub use schedule_turns::{StepKind, Turn};
 pub use stopping::whole_turns;

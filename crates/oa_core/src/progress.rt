@@ -29,7 +29,7 @@ pub(crate) enum Move {
 
 /// Why a replay stops, with the steps made before.
 #[derive(Clone, Copy)]
-pub(crate) enum Stop {
+pub enum Stop {
     /// A step is needed of a caller that has none to take, or that doesn't exist.
     StepOfNobody { steps: u64 },
     /// The limit of steps is reached, and another is wanted.
@@ -108,7 +108,7 @@ impl<'a> Terms<'a> {
     }
 
     /// The entry takes its call, if it takes one.
-    fn begin_entry(&self, entry: &mut Entry, next: Move)
+    pub(crate) fn begin_entry(&self, entry: &mut Entry, next: Move)
         requires belongs { BelongsTo self.now.pair self.now.setting entry.old.core }
         requires can { CanMove self.now.pair.target next entry.old }
         ensures begun { entry.new ≡ begun self.now.setting.reclamation next entry.old }

@@ -6,8 +6,9 @@ ghost use Rattle.caller_parts.specs.Settings.{Fits};
 ghost use Rattle.core_runs.specs.Replays.{replay_start, replayed};
 ghost use Rattle.replay_steps.specs.Entries.{IsShort, HasRooms};
 ghost use Rattle.replay_steps.specs.Turns.{replayed_from};
-ghost use Rattle.oa_core.specs.Finals.{phase_of, is_spent_in, replay_limit, replay_of, AnswersReplay, EndsRun};
-ghost use Rattle.oa_core.specs.Shown.{replay_by, shown, bared, told, error_of, final_of, answer_of, SuitsReplay, IsUnderWay};
+ghost use Rattle.oa_core.specs.Finals.{phase_of, is_spent_in, replay_limit, replay_of, AnswersTurns, AnswersReplay, EndsRun};
+ghost use Rattle.oa_core.specs.Shown.{replay_by, terms_of, shown, bared, told, error_of, final_of, end_of, answer_of, SuitsReplay, IsUnderWay};
+ghost use Rattle.oa_core.specs.Stops.{StopsAfter};
 ghost use Rattle.oa_core.specs.States.{RunsInRow};
 
 use crate::limits::MOST_STEPS;
@@ -85,7 +86,7 @@ impl CoreState {
 }
 
 /// The start of a replay.
-pub(crate) fn start(alloc: Global, terms: &Terms) -> Result<Progress, AllocError>
+fn start(alloc: Global, terms: &Terms) -> Result<Progress, AllocError>
     requires suits { SuitsReplay terms.now }
     ensures started { IfOk result (λ now. shown now ≡ replay_start (replay_by terms.now)) }
     ensures under_way { IfOk result (λ now. IsUnderWay terms.now now) }
@@ -122,7 +123,7 @@ fn error_of(stop: Stop) -> ReplayError
 }
 
 #[tactic(auto, unfolding(crate::specs::Finals::replay_limit))]
-pub(crate) fn replay_limit() -> u64
+fn replay_limit() -> u64
     ensures { result ≡ replay_limit }
 {
     MOST_STEPS
@@ -139,40 +140,112 @@ fn state_of(now: Progress, fuel: u64) -> CoreState
     }
 }
 
-/// What is answered by how a replay has ended.
-fn answer_of(made: Result<(), Stop>, now: Progress, fuel: u64) -> Result<CoreState, ReplayError>
-    ensures { result ≡ answer_of made now fuel }
+/// How a replay has ended.
+fn end_of(made: Result<(), Stop>, now: Progress, fuel: u64) -> Result<CoreState, Stop>
+    ensures { result ≡ end_of made now fuel }
 {
     match made {
-        Err(stop) => Err(error_of(stop)),
+        Err(stop) => Err(stop),
         Ok(()) => Ok(state_of(now, fuel)),
     }
 }
 
 /// From a state on.
-fn replay_from(terms: &Terms, now: Progress, schedule: &[Turn]) -> Result<CoreState, ReplayError>
+fn replay_from(terms: &Terms, now: Progress, schedule: &[Turn]) -> Result<CoreState, Stop>
     requires under_way { IsUnderWay terms.now now }
-    ensures replayed { AnswersReplay result terms.now.fuel (replayed_from (replay_by terms.now) schedule.now (shown now)) }
+    ensures replayed { AnswersTurns result terms.now.fuel (replayed_from (replay_by terms.now) schedule.now (shown now)) }
     ensures rooms { IfOk result (λ s. HasRooms terms.now.scripts s.entries) }
 {
     let mut later = now;
     let made = run(terms, &mut later, schedule);
-    answer_of(made, later, terms.fuel)
+    end_of(made, later, terms.fuel)
 }
 
-/// From the start on.
-fn replay_by(alloc: Global, terms: &Terms, schedule: &[Turn]) -> Result<CoreState, ReplayError>
-    requires suits { SuitsReplay terms.now }
-    ensures replayed { AnswersReplay result terms.now.fuel (replayed (replay_by terms.now) schedule.now) }
-    ensures rooms { IfOk result (λ s. HasRooms terms.now.scripts s.entries) }
-{
-    match start(alloc, terms) {
-        Err(_) => Err(ReplayError::Memory),
-        Ok(now) => replay_from(terms, now, schedule),
+/// A replay of scripts that is ready to be made. It holds all the memory that it needs: to make it takes none.
+#[derive(Drop)]
+pub struct ReadyReplay<'a> {
+    terms: Terms<'a>,
+    start: Progress,
+}
+
+impl<'a> Model for ReadyReplay<'a> {
+    ghost use Rattle.std.specs.Prelude.{◌≡◌};
+    ghost use Rattle.core_runs.specs.Replays.{replay_start};
+    ghost use Rattle.oa_core.specs.Shown.{Terms as Told, replay_by, shown, IsUnderWay};
+
+    ghost Value = { Told };
+
+    ghost view = { λ r. r.terms };
+
+    ghost invariant = { λ r. IsUnderWay r.terms r.start × (shown r.start ≡ replay_start (replay_by r.terms)) };
+}
+
+impl<'a> ReadyReplay<'a> {
+    /// Takes the memory for a replay of scripts, one for each caller, on a prepared target, whose program is made here once for all
+    /// steps.
+    ///
+    /// # Errors
+    /// Memory ran out.
+    pub fn new(
+        alloc: Global,
+        prepared: &'a Prepared<'a>,
+        setting: &'a Setting,
+        scripts: &'a [CallList],
+        fuel: u64,
+    ) -> Result<ReadyReplay<'a>, AllocError>
+        requires fits { Fits prepared.now.target setting.now }
+        requires count { length scripts.now ≡ setting.now.sizes.callers }
+        requires calls { All (AreCalls prepared.now.target) scripts.now }
+        requires few { All IsShort scripts.now }
+        ensures { IfOk result (λ r. r ≡ terms_of prepared.now setting.now scripts.now fuel) }
+    {
+        let terms = Terms {
+            prepared,
+            program: prepared.program(),
+            setting,
+            scripts,
+            fuel,
+            limit: replay_limit(),
+        };
+        match start(alloc, &terms) {
+            Ok(start) => Ok(ReadyReplay { terms, start }),
+            Err(error) => Err(error),
+        }
+    }
+
+    /// Makes the turns of a schedule in order, and then each caller's steps to its end.
+    ///
+    /// # Errors
+    /// A turn needs a step of nobody, or the limit of steps is reached and another is wanted.
+    pub fn make(self, schedule: &[Turn]) -> Result<CoreState, Stop>
+        ensures replayed { AnswersTurns result self.entry.fuel (replayed (replay_by self.entry) schedule.now) }
+        ensures rooms { IfOk result (λ s. HasRooms self.entry.scripts s.entries) }
+    {
+        let ReadyReplay { terms, start } = self;
+        replay_from(&terms, start, schedule)
+    }
+
+    /// How many turns of a schedule it makes whole before the one at which it stops; all of them, if it stops at none.
+    pub fn count_whole(self, schedule: &[Turn]) -> usize
+        ensures { StopsAfter (replay_by self.entry) schedule.now (replay_start (replay_by self.entry)) result }
+    {
+        let ReadyReplay { terms, start } = self;
+        let mut now = start;
+        terms.count_turns(&mut now, schedule)
     }
 }
 
-/// Replays scripts on a prepared target, whose program is made here once for all steps.
+/// What is answered by how a replay has ended.
+fn answer_of(ended: Result<CoreState, Stop>) -> Result<CoreState, ReplayError>
+    ensures { result ≡ answer_of ended }
+{
+    match ended {
+        Err(stop) => Err(error_of(stop)),
+        Ok(state) => Ok(state),
+    }
+}
+
+/// Replays scripts on a prepared target.
 fn replay_prepared<'a>(
     alloc: Global,
     prepared: &'a Prepared<'a>,
@@ -188,15 +261,10 @@ fn replay_prepared<'a>(
     ensures replayed { AnswersReplay result fuel (replayed (replay_of prepared.now.target setting.now scripts.now fuel) schedule.now) }
     ensures rooms { IfOk result (λ s. HasRooms scripts.now s.entries) }
 {
-    let terms = Terms {
-        prepared,
-        program: prepared.program(),
-        setting,
-        scripts,
-        fuel,
-        limit: replay_limit(),
-    };
-    replay_by(alloc, &terms, schedule)
+    match ReadyReplay::new(alloc, prepared, setting, scripts, fuel) {
+        Ok(ready) => answer_of(ready.make(schedule)),
+        Err(_) => Err(ReplayError::Memory),
+    }
 }
 
 /// Replays scripts, one for each caller: the turns of a schedule in order, and then each caller to its end, in the order of
@@ -207,9 +275,11 @@ fn replay_prepared<'a>(
 /// that is never recycled: see `FollowsSource`. In this state, as in each to which events lead, nothing leads out of
 /// the row.
 ///
+/// It is meant for optimistic access: under epochs a call that comes to a check of the target stays there until its fuel is spent.
+///
 /// # Errors
 /// A turn needs a step of a caller that has none to take or that doesn't exist, 20,000,000 steps were made and another is
-/// wanted, or memory ran out.
+/// wanted, or memory ran out, before the first step.
 #[tactic(auto, using(crate::proofs::Ending::runs_in_row))]
 pub fn replay(
     alloc: Global,

@@ -6,11 +6,11 @@ ghost use Rattle.caller_parts.specs.Settings.{Fits};
 ghost use Rattle.core_runs.specs.Replays.{replay_start};
 ghost use Rattle.replay_steps.specs.Entries.{IsShort};
 ghost use Rattle.oa_core.specs.Finals.{replay_of};
-ghost use Rattle.oa_core.specs.Shown.{replay_by, shown, SuitsReplay, IsUnderWay};
+ghost use Rattle.oa_core.specs.Shown.{replay_by, shown, IsUnderWay};
 ghost use Rattle.oa_core.specs.Stops.{StopsAfter};
 
 use crate::progress::{Progress, Terms};
-use crate::replaying::{CallList, replay_limit, start};
+use crate::replaying::{CallList, ReadyReplay};
 use barrier_check::Barred;
 use caller_steps::Setting;
 use core_ground::Prepared;
@@ -19,7 +19,7 @@ use std::alloc::{AllocError, Global};
 
 impl<'a> Terms<'a> {
     /// How many turns, in order, are made whole before one that isn't.
-    fn count_turns(&self, now: &mut Progress, schedule: &[Turn]) -> usize
+    pub(crate) fn count_turns(&self, now: &mut Progress, schedule: &[Turn]) -> usize
         requires under_way { IsUnderWay self.now now.old }
         ensures { StopsAfter (replay_by self.now) schedule.now (shown now.old) result }
     {
@@ -33,21 +33,7 @@ impl<'a> Terms<'a> {
     }
 }
 
-/// From the start on.
-fn count_by(alloc: Global, terms: &Terms, schedule: &[Turn]) -> Result<usize, AllocError>
-    requires suits { SuitsReplay terms.now }
-    ensures { IfOk result (λ whole. StopsAfter (replay_by terms.now) schedule.now (replay_start (replay_by terms.now)) whole) }
-{
-    match start(alloc, terms) {
-        Err(error) => Err(error),
-        Ok(now) => {
-            let mut later = now;
-            Ok(terms.count_turns(&mut later, schedule))
-        }
-    }
-}
-
-/// On a prepared target, whose program is made here once for all steps.
+/// On a prepared target.
 fn count_prepared<'a>(
     alloc: Global,
     prepared: &'a Prepared<'a>,
@@ -62,15 +48,10 @@ fn count_prepared<'a>(
     requires few { All IsShort scripts.now }
     ensures { IfOk result (λ whole. StopsAfter (replay_of prepared.now.target setting.now scripts.now fuel) schedule.now (replay_start (replay_of prepared.now.target setting.now scripts.now fuel)) whole) }
 {
-    let terms = Terms {
-        prepared,
-        program: prepared.program(),
-        setting,
-        scripts,
-        fuel,
-        limit: replay_limit(),
-    };
-    count_by(alloc, &terms, schedule)
+    match ReadyReplay::new(alloc, prepared, setting, scripts, fuel) {
+        Ok(ready) => Ok(ready.count_whole(schedule)),
+        Err(error) => Err(error),
+    }
 }
 
 /// How many turns of a schedule `replay` makes whole before the one at which it stops; all of them, if it stops at none.

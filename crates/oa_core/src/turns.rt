@@ -68,15 +68,14 @@ impl<'a> Terms<'a> {
     }
 
     /// Steps of a caller until so many more of its calls have ended.
-    #[tactic(auto, using(crate::proofs::Looping::ops_more, crate::proofs::Looping::ops_stop, crate::proofs::Looping::ops_end))]
     fn make_ops(&self, now: &mut Progress, caller: u32, count: u32) -> Result<(), Stop>
         requires under_way { IsUnderWay self.now now.old }
         ensures made { told result now.new ≡ bared (ops_made (replay_by self.now) caller (most_steps (replay_by self.now) (shown now.old)) (ended_calls caller (shown now.old) + count) (shown now.old)) }
         ensures under_way { IsUnderWay self.now now.new }
     {
         let goal = self.goal_of(now, caller, count);
-        'steps: while self.ended_calls(now, caller) < goal {
-            self.step_of(now, caller)?;
+        'calls: while self.ended_calls(now, caller) < goal {
+            self.call_of(now, caller)?;
         }
         Ok(())
     }
@@ -117,8 +116,8 @@ impl<'a> Terms<'a> {
         ensures made { told result now.new ≡ bared (caller_ended (replay_by self.now) caller (most_steps (replay_by self.now) (shown now.old)) (shown now.old)) }
         ensures under_way { IsUnderWay self.now now.new }
     {
-        'steps: while let Some(next) = self.next_of(now, caller) {
-            self.make_step(now, caller, next)?;
+        'calls: while let Some(next) = self.next_of(now, caller) {
+            self.make_call(now, caller, next)?;
         }
         Ok(())
     }

@@ -159,7 +159,7 @@ module _ (t : Plan) (runs : MayBeWalked t.target t.text) (own : IsSetting t.sett
   stand : NodesStand t.target
   stand =
       let parts = declared t.text runs.small in
-      let few = own.sizes.8.few in
+      let few = own.sizes.kinds.few in
       let same = fits.kinds in
       nodes_stand t.target (omega (arith, few, same)) (subst (λ (text : Text). are_nodes (length text.kinds) text.fields text.nodes ≡ true) (sym runs.erases) parts.nodes)
 
@@ -179,7 +179,7 @@ module _ (t : Plan) (runs : MayBeWalked t.target t.text) (own : IsSetting t.sett
 
   -- the slot of an initial node, as the words have it
   home_is : (n : ℕ) → n ≤ together t.setting.nodes → t.home n ≡ node_home t.target t.setting.sizes n
-  home_is n le = homes n (omega (arith, le)) ∙ (slot_home t.setting own.sizes.8 own.nodes known n le ∙ ap (λ (counts : List ℕ). row_starts.first_home t.setting.sizes counts n) fits.nodes)
+  home_is n le = homes n (omega (arith, le)) ∙ (slot_home t.setting own.sizes.kinds own.nodes known n le ∙ ap (λ (counts : List ℕ). row_starts.first_home t.setting.sizes counts n) fits.nodes)
 
   home_owner : (j : ℕ) → j ≤ length (owners_of t.text.nodes) → t.home j ≡ node_home t.target t.setting.sizes j
   home_owner j le = let same = owners_count t.text.nodes in let c = count in home_is j (omega (arith, le, same, c))
@@ -193,7 +193,7 @@ module _ (t : Plan) (runs : MayBeWalked t.target t.text) (own : IsSetting t.sett
 
   initial : (j : ℕ) → first_present t.setting j ≢ 0 → Initial j
   initial j some =
-      let named = slot_named t.setting own.sizes.8 own.nodes known j some in
+      let named = slot_named t.setting own.sizes.kinds own.nodes known j some in
       let c = count in
       let among = named.among in
       let there = there_is t.text.nodes named.number (omega (arith, c, among)) in
@@ -218,7 +218,7 @@ module _ (t : Plan) (runs : MayBeWalked t.target t.text) (own : IsSetting t.sett
       ∙ (slice_get-map (node_words (node_home t.target t.setting.sizes)) t.text.nodes n.named.number ∙ ap (option_map (node_words (node_home t.target t.setting.sizes))) n.there)))
 
   slot_within : (j : ℕ) (n : Initial j) → j ≤ t.setting.sizes.slots
-  slot_within j n = subst (λ (i : ℕ). i ≤ t.setting.sizes.slots) n.named.stands (node_within t.setting own.sizes.8 own.nodes known n.named.number n.named.among).1
+  slot_within j n = subst (λ (i : ℕ). i ≤ t.setting.sizes.slots) n.named.stands (node_within t.setting own.sizes.kinds own.nodes known n.named.number n.named.among).1
 
   -- so its fields' words are in the row
   field_is : (j g : ℕ) (n : Initial j) → g < length (firsts n.node) → memory (FieldOf j g) ≡ slice_index (map (value_word (node_home t.target t.setting.sizes)) n.node.values) g
@@ -258,7 +258,7 @@ module _ (t : Plan) (runs : MayBeWalked t.target t.text) (own : IsSetting t.sett
   ready_kind zero ne none = absurd (ne refl)
   ready_kind (suc j) ne none =
       let past = number_past t.setting (kind_of t.setting.sizes (suc j)) (suc j - first_of t.setting.sizes (kind_of t.setting.sizes (suc j))) none in
-      let low = first_below t.setting.sizes (suc j) own.sizes.8 (omega arith) in
+      let low = first_below t.setting.sizes (suc j) own.sizes.kinds (omega arith) in
       let test : nat_lt (suc j) (slice_index t.setting.nodes (kind_of t.setting.sizes (suc j)) + first_of t.setting.sizes (kind_of t.setting.sizes (suc j))) ≡ false =
       (let le : slice_index t.setting.nodes (kind_of t.setting.sizes (suc j)) + first_of t.setting.sizes (kind_of t.setting.sizes (suc j)) ≤ suc j = omega (arith, past, low) in grind (arith, nat_tests)) in
       rw test refl
@@ -332,7 +332,7 @@ module _ (t : Plan) (runs : MayBeWalked t.target t.text) (own : IsSetting t.sett
     top = λ x. few_or_none (name_in (value_at (first_memory t.text).roots x)) (subst (λ (n : ℕ). name_in (value_at (first_memory t.text).roots x) ≤ n) (owners_count t.text.nodes) (tops_right (length t.text.kinds) (owners_of t.text.nodes) t.text.roots x (rooted t.text runs.small)));
     typed = first_typed t.text runs.small;
     home = λ j some. (let n = initial j some in
-        homes (first_present t.setting j) (let le = named_among j n in omega (arith, le)) ∙ (slot_home t.setting own.sizes.8 own.nodes known (first_present t.setting j) (named_among j n)
+        homes (first_present t.setting j) (let le = named_among j n in omega (arith, le)) ∙ (slot_home t.setting own.sizes.kinds own.nodes known (first_present t.setting j) (named_among j n)
         ∙ (ap (row_starts.first_home t.setting.sizes t.setting.nodes) n.named.name ∙ n.named.stands)));
     named = λ j some. (let n = initial j some in is_named (first_present t.setting j) some (named_among j n));
     stands = λ n node. (let k = numbered n node in stands n k);
@@ -356,7 +356,7 @@ module _ (t : Plan) (runs : MayBeWalked t.target t.text) (own : IsSetting t.sett
     stands n k =
         let among = k.among in
         let is = k.is in
-        ap (first_present t.setting) (homes n (omega (arith, among, is)) ∙ ap (first_home t.setting) is) ∙ (node_present t.setting own.sizes.8 own.nodes known k.number among ∙ sym is)
+        ap (first_present t.setting) (homes n (omega (arith, among, is)) ∙ ap (first_home t.setting) is) ∙ (node_present t.setting own.sizes.kinds own.nodes known k.number among ∙ sym is)
 
     ready : (j : ℕ) (b : Bool) → in_row t.setting.sizes (Status j) ≡ b → start_kind (range_at t.setting.sizes j) (slice_index t.setting.nodes (kind_of t.setting.sizes j)) j ≡ kinds_of_status.Ready → IsOf kinds_of_status.Ready (memory (Status j))
     ready j true row is = let lt : j < t.setting.sizes.slots + 1 = grind (arith, nat_tests) in status_is j kinds_of_status.Ready (omega (arith, lt)) is

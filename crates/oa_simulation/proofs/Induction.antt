@@ -7,7 +7,7 @@ use Rattle.oa_words.specs.Within.{AreKinds}
 use Rattle.oa_words.specs.Starts.{Suits}
 use Rattle.phase_pools.specs.Accesses.{WordAccess, word_of}
 use Rattle.source_machine.specs.MethodRuns.{put}
-use Rattle.source_machine.specs.Proper.{IsProper}
+use Rattle.source_machine.specs.Proper.{IsProperFor}
 use Rattle.source_machine.proofs.Places.{each_put, put_same, put_other}
 use Rattle.caller_parts.specs.declared.call.Call.{Call}
 use Rattle.caller_parts.specs.declared.routine.Routine.{Routine}
@@ -174,7 +174,7 @@ pub record PooledBeside (t : Plan) (state : CoreState) (z : Shadow) (present : �
   pub named : NamedBeside t state z present
   pub pooled : Pooled t.target t.setting state
 
-module _ (t : Plan) (normal : IsNormal t.text) (within : IsWithinLimits t.text) (null_home : t.home 0 ≡ 0) (optimistic : t.setting.reclamation ≡ Optimistic) (test : Entry → Bool) (keeps : StepsKeep t test) (proper : IsProper t.text) (events_seen : EventsAreSeen t.target t.setting) where
+module _ (t : Plan) (normal : IsNormal t.text) (within : IsWithinLimits t.text) (null_home : t.home 0 ≡ 0) (optimistic : t.setting.reclamation ≡ Optimistic) (test : Entry → Bool) (keeps : StepsKeep t test) (proper : IsProperFor t.setting.sizes.callers t.text) (events_seen : EventsAreSeen t.target t.setting) where
   abbrev seen : CoreState → CoreView
   seen state = view t.setting state
 
@@ -284,7 +284,7 @@ module _ (t : Plan) (normal : IsNormal t.text) (within : IsWithinLimits t.text) 
   event_beside all (Steps c) state behind z sound shaped b ready m homes = step_beside state behind z c (all ((seen state).who c)) sound shaped b (ready c) m homes
 
   -- the induction, over what stays sound
-  pub run_beside : AreKinds t.setting.sizes → t.setting.sizes.slots ≤ 4096 → NewsFit t.target t.setting.sizes → Suits t.setting.sizes (beginning_of t.target t.setting) → ((e : Entry) → test e ≡ true) → ((state : CoreState) → IsSound t.target t.setting state → IsShaped t.target t.setting state)
+  pub run_beside : AreKinds t.setting.sizes → t.setting.sizes.slots < t.setting.sizes.tops → NewsFit t.target t.setting.sizes → Suits t.setting.sizes (beginning_of t.target t.setting) → ((e : Entry) → test e ≡ true) → ((state : CoreState) → IsSound t.target t.setting state → IsShaped t.target t.setting state)
       → ((state behind : CoreState) (event : CoreEvent) → IsSound t.target t.setting state → core_event t.target t.setting state event ≡ Some behind → IsSound t.target t.setting behind)
       → (events : List CoreEvent) (state behind : CoreState) (z : Shadow) (present : ℕ → ℕ) → IsSound t.target t.setting state → PooledBeside t state z present → core_run t.target t.setting events state ≡ Some behind
       → HomeIs t.home (shadow_run t.text (run_signs t.target t.setting events state) z)

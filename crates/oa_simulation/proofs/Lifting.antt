@@ -1,5 +1,5 @@
 -- What a caller's signs do to its own part of the source, the whole source does.
-use Rattle.std.proofs.Common.{ℕ, ◌≡◌, ◌∙◌, true, false, List, Some, sym, ap, subst, refl}
+use Rattle.std.proofs.Common.{ℕ, ◌≡◌, ◌∙◌, true, false, List, Some, sym, ap, subst, refl, arith}
 use Rattle.std.specs.Prelude.{slice_get}
 use Rattle.norm_lang.specs.declared.text.Text.{Text}
 use Rattle.norm_lang.specs.Limits.{IsWithinLimits}
@@ -13,7 +13,7 @@ use Rattle.source_machine.specs.declared.state.SourceCaller.{SourceCaller}
 use Rattle.source_machine.specs.declared.state.SourceMachine.{SourceMachine}
 use Rattle.source_machine.specs.Run.{mover, is_enabled, is_enabled_for}
 use Rattle.source_machine.specs.MethodRuns.{MethodRun, Watched, watched_start, watched_step, watched_run}
-use Rattle.source_machine.specs.Proper.{runs_method, IsProper, IsProperState}
+use Rattle.source_machine.specs.Proper.{runs_method, IsProperFor, IsProperState}
 use Rattle.source_machine.proofs.Along.{source_run_more, watched_more, watched_machine}
 use Rattle.caller_steps.specs.Signs.{Sign, Begins, Renews}
 use Rattle.core_runs.specs.RunSigns.{signed}
@@ -104,17 +104,17 @@ proper_at text v z c x s kinds at = record {
   kinds = kinds;
 }
 
-proper_point : (text : Text) (callers c : ℕ) (z : Shadow) (v : Watched) (p : Point) → IsNormal text → IsWithinLimits text → IsProper text → Sourced text callers z v → Placed v z c p → IsProperPoint text p
+proper_point : (text : Text) (callers c : ℕ) (z : Shadow) (v : Watched) (p : Point) → IsNormal text → IsWithinLimits text → IsProperFor callers text → Sourced text callers z v → Placed v z c p → IsProperPoint text p
 proper_point text callers c z v p normal within proper s at =
     let machine = machine_is text callers z v s in
     subst (IsProperPoint text) (point_is v z c p at)
     (proper_at text v z c p.caller (subst (λ (u : Watched). IsProperState u.machine u.runs) (sym s.watched)
     (subst (λ (m : SourceMachine). IsProperState m (watched_run text z.events (watched_start text callers)).runs) (sym (watched_machine text callers z.events z.machine s.run))
-    (proper callers z.events z.machine s.run)))
+    (proper callers z.events z.machine (omega arith) s.run)))
     (subst (λ (m : SourceMachine). IsTypedCaller text m.memory.nodes p.caller) (sym machine)
     (callers_are_typed text normal within callers z.events z.machine s.run c p.caller (ap (λ (m : SourceMachine). slice_get m.callers c) (sym machine) ∙ at.caller))) at.caller)
 
-pub stays_proper : (text : Text) (callers c : ℕ) (z : Shadow) (v : Watched) (p : Point) → IsNormal text → IsWithinLimits text → IsProper text → Sourced text callers z v → Placed v z c p → StaysProper text c p
+pub stays_proper : (text : Text) (callers c : ℕ) (z : Shadow) (v : Watched) (p : Point) → IsNormal text → IsWithinLimits text → IsProperFor callers text → Sourced text callers z v → Placed v z c p → StaysProper text c p
 stays_proper text callers c z v p normal within proper s at signs q plays =
     let l = lift text callers c signs p q plays z v s at in
     proper_point text callers c (shadow_run text (signed c signs) z) l.v' q normal within proper l.sourced l.placed

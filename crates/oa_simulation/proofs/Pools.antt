@@ -57,12 +57,12 @@ module _ (t : Plan) (state : CoreState) (z : Shadow) (b : Beside t state z) wher
   retires_used = owners_retire t.setting state b.w.shared b.holds.shared_holds.slot (λ j. ap (λ (memory : Word → ℕ). memory (Status j)) b.memory) retiring
 
 -- each event goes on to a state of the pool
-pub pool_goes : (t : Plan) (state behind : CoreState) (z' : Shadow) (event : CoreEvent) → AreKinds t.setting.sizes → t.setting.sizes.slots ≤ 4096 → NewsFit t.target t.setting.sizes → Suits t.setting.sizes (beginning_of t.target t.setting) → IsShaped t.target t.setting state
+pub pool_goes : (t : Plan) (state behind : CoreState) (z' : Shadow) (event : CoreEvent) → AreKinds t.setting.sizes → t.setting.sizes.slots < t.setting.sizes.tops → NewsFit t.target t.setting.sizes → Suits t.setting.sizes (beginning_of t.target t.setting) → IsShaped t.target t.setting state
     → Moves t.target t.setting (view t.setting state) event (view t.setting behind) → Pooled t.target t.setting state → Beside t behind z' → Pooled t.target t.setting behind
 pool_goes t state behind z' event are few news suits shaped m pooled b = event_pooled t.target t.setting are few suits news state behind event shaped m pooled (retires_used t behind z' b)
 
 -- what a claim has taken is ready until the claim stores that it is used
-pub takes_ready : (target : Target) (setting : Setting) (state : CoreState) (c : ℕ) → AreKinds setting.sizes → setting.sizes.slots ≤ 4096 → Suits setting.sizes (beginning_of target setting) → Pooled target setting state → TakesReady (view setting state).memory ((view setting state).who c).routine
+pub takes_ready : (target : Target) (setting : Setting) (state : CoreState) (c : ℕ) → AreKinds setting.sizes → setting.sizes.slots < setting.sizes.tops → Suits setting.sizes (beginning_of target setting) → Pooled target setting state → TakesReady (view setting state).memory ((view setting state).who c).routine
 takes_ready target setting state c are few suits pooled = of ((view setting state).who c).routine refl where
   in_claim : (claim : Claim) → standings (view setting state).who c ≡ pool.Claims claim → (stage : ClaimStage) → claim.stage ≡ stage → TakenIsReady (view setting state).memory stage
   in_claim claim at claims.ReadHead is = tt

@@ -11,7 +11,7 @@ use Rattle.phase_pools.specs.declared.stages.SweepStage.TheVariants as sweeps
 use Rattle.phase_pools.specs.declared.stages.ClaimStage.{ClaimStage}
 use Rattle.phase_pools.specs.declared.stages.ClaimStage.TheVariants as claims
 use Rattle.phase_pools.specs.Accesses.{WordAccess, Loads, word_of}
-use Rattle.source_machine.specs.Proper.{IsProper}
+use Rattle.source_machine.specs.Proper.{IsProperFor}
 use Rattle.source_machine.proofs.Places.{put_same}
 use Rattle.caller_parts.specs.declared.routine.Routine.{Routine}
 use Rattle.caller_parts.specs.declared.routine.Routine.TheVariants.{Claims}
@@ -61,7 +61,7 @@ is_plan target text setting home runs barred own fits optimistic null = record {
   some = own;
   fits = fits;
   optimistic = optimistic;
-  callers = own.sizes.0;
+  callers = own.sizes.callers;
   null = null;
 }
 
@@ -78,7 +78,7 @@ start_related target text setting runs own fits =
           (first_words t runs own fits (λ n lt. refl))).0;
     }
 
-pub quiet_kept : (target : Target) (text : Text) (setting : Setting) → MayBeWalked target text → IsBarred target text → IsSetting setting → Fits target setting → setting.reclamation ≡ Optimistic → IsProper text → QuietStepsKeep target text setting
+pub quiet_kept : (target : Target) (text : Text) (setting : Setting) → MayBeWalked target text → IsBarred target text → IsSetting setting → Fits target setting → setting.reclamation ≡ Optimistic → IsProperFor setting.sizes.callers text → QuietStepsKeep target text setting
 quiet_kept target text setting runs barred own fits optimistic proper state later z c reached related quiet is =
     let home : ℕ → ℕ = related.home in
     let t : Plan = planned target text setting home in
@@ -99,7 +99,7 @@ quiet_kept target text setting runs barred own fits optimistic proper state late
       homes = homes;
       beside = (step_beside t runs.normal runs.small related.null optimistic (is_quiet target setting) (quiet_steps t (is_plan target text setting home runs barred own fits optimistic related.null)) proper seen
           state later z c quiet sound shaped related.beside
-          (takes_ready target setting state c (setting_sane setting own).kinds (setting_sane setting own).few (start_suits target text setting runs own fits).suits (stands target text setting reached.events state runs barred own fits optimistic proper reached.runs).pooled) m homes).0;
+          (takes_ready target setting state c (setting_sane setting own).kinds own.sizes.tops (start_suits target text setting runs own fits).suits (stands target text setting reached.events state runs barred own fits optimistic proper reached.runs).pooled) m homes).0;
     }
 
 pub runs_begin_unwarned : (target : Target) (text : Text) (setting : Setting) → MayBeWalked target text → IsSetting setting → Fits target setting → setting.reclamation ≡ Optimistic → RunsBeginUnwarned target text setting

@@ -70,7 +70,7 @@ start_beside t own start suits first = (
     };
     memory = refl;
     entry = λ d lt. sym (start.who d);
-    sourced = record { run = record { some = own.sizes.0; few = own.sizes.1; runs = refl }; watched = refl };
+    sourced = record { run = record { some = own.sizes.callers; runs = refl }; watched = refl };
     source = refl;
     caller = λ d lt. all_idle t.setting.sizes.callers d lt;
     run = λ d lt. refl;
@@ -127,16 +127,16 @@ stands target text setting events state runs barred own fits optimistic proper i
       some = own;
       fits = fits;
       optimistic = optimistic;
-      callers = own.sizes.0;
+      callers = own.sizes.callers;
       null = homes 0 (omega arith) ∙ first_null setting;
     } in
     let first = start_beside t own (start_is_seen target setting) suits (first_words t runs own fits homes) in
     let sound0 = start_sound target setting (methods target text runs) runs.within own fits in
     let sound = states_are_sound target text setting state runs own fits (record { events = events; runs = is }) in
-    let b = run_beside t runs.normal runs.small plan.null optimistic (λ e. true) (steps_keep t plan) proper (events_are_seen target setting) (setting_sane setting own).kinds (setting_sane setting own).few (news_fit target setting (methods target text runs) (setting_sane setting own) fits) suits (λ e. refl)
+    let b = run_beside t runs.normal runs.small plan.null optimistic (λ e. true) (steps_keep t plan) proper (events_are_seen target setting) (setting_sane setting own).kinds own.sizes.tops (news_fit target setting (methods target text runs) (setting_sane setting own) fits) suits (λ e. refl)
     (λ s sound. sound_is_shaped target setting s (methods target text runs) (setting_sane setting own) fits sound)
     (λ s next event sound at. event_sound target setting s next event (methods target text runs) (setting_sane setting own) fits sound at)
-    events (core_start target setting) state z0 (first_present setting) sound0 (record { named = first; pooled = start_pooled target setting (setting_sane setting own).kinds (setting_sane setting own).few suits }) is (λ n lt. refl) in
+    events (core_start target setting) state z0 (first_present setting) sound0 (record { named = first; pooled = start_pooled target setting (setting_sane setting own).kinds own.sizes.tops suits }) is (λ n lt. refl) in
     record { plan = plan; sound = sound; pooled = b.pooled; beside = b.named.0; present = b.named.1 }
 
 pub simulates : (target : Target) (text : Text) (setting : Setting) → MayBeWalked target text → IsBarred target text → IsSetting setting → Fits target setting → setting.reclamation ≡ Optimistic → RunsAreSimulated target text setting

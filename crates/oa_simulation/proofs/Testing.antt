@@ -23,7 +23,7 @@ use Rattle.source_machine.specs.declared.state.SourceCaller.{SourceCaller}
 use Rattle.source_machine.specs.declared.state.SourceMachine.{SourceMachine}
 use Rattle.source_machine.specs.Memory.{exchange}
 use Rattle.source_machine.specs.Step.{performed_by, goes_on, generator_stand, wrap_up_stop}
-use Rattle.source_machine.specs.Proper.{IsProper}
+use Rattle.source_machine.specs.Proper.{IsProperFor}
 use Rattle.caller_parts.specs.declared.routine.Routine.{Routine}
 use Rattle.caller_parts.specs.declared.routine.Routine.TheVariants.{At, InList as InCoreList}
 use Rattle.caller_steps.specs.Entries.{Entry, instr_in}
@@ -188,7 +188,7 @@ module _ (t : Plan) (s : Shared) (c : ℕ) (x : Caller) (plan : IsPlan t) (f : S
 
 -- ---- a state beside its shadow
 
-pub exchanges_agree : (t : Plan) (state : CoreState) (z : Shadow) → IsPlan t → IsProper t.text → IsShaped t.target t.setting state → Beside t state z → ExchangesAgree t.target t.text t.setting state z.machine
+pub exchanges_agree : (t : Plan) (state : CoreState) (z : Shadow) → IsPlan t → IsProperFor t.setting.sizes.callers t.text → IsShaped t.target t.setting state → Beside t state z → ExchangesAgree t.target t.text t.setting state z.machine
 exchanges_agree t state z plan proper shaped b c e entry a at is want =
     let lt = is_caller state t.setting.sizes.callers c e shaped.callers at in
     let x : Caller = b.w.who c in

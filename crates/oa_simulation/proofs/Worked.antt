@@ -7,7 +7,7 @@ use Rattle.oa_simulation.specs.Present.{first_present}
 
 -- slots 1 to 3 are of the first kind, 4 and 5 of the second; one initial node is of the first kind, two are of the second
 two : Setting
-two = record { reclamation = Optimistic; sizes = record { callers = 1; slots = 5; fields = 1; cells = 1; kinds = 3 ∷ 2 ∷ [] }; first = 1; last = 9; nodes = 1 ∷ 2 ∷ 0 ∷ 0 ∷ [] }
+two = record { reclamation = Optimistic; sizes = record { callers = 1; slots = 5; fields = 1; cells = 1; kinds = 3 ∷ 2 ∷ []; tops = 8192 }; first = 1; last = 9; nodes = 1 ∷ 2 ∷ 0 ∷ 0 ∷ [] }
 
 -- the slots of the names from 0 to 4; 4 is no initial node's
 homes : map (first_home two) (0 ∷ 1 ∷ 2 ∷ 3 ∷ 4 ∷ []) ≡ 0 ∷ 1 ∷ 4 ∷ 5 ∷ 0 ∷ []

@@ -8,7 +8,7 @@ use Rattle.oa_words.specs.Packed.{status_word}
 use Rattle.phase_pools.specs.declared.stages.SweepStage.TheVariants as sweeps
 use Rattle.phase_pools.specs.declared.stages.ClaimStage.TheVariants as claims
 use Rattle.phase_pools.specs.Pools.{Claim}
-use Rattle.source_machine.specs.Proper.{IsProper}
+use Rattle.source_machine.specs.Proper.{IsProperFor}
 use Rattle.caller_parts.specs.declared.routine.Routine.TheVariants.{Claims}
 use Rattle.caller_parts.specs.Settings.{Setting}
 use Rattle.core_runs.specs.Machine.{CoreState, CoreEvent, Steps, Reachable, core_start, core_event, core_run}
@@ -64,7 +64,7 @@ abbrev pub SweepsSpareGuards : Target → Text → Setting → Type 0
 SweepsSpareGuards target text setting = (state : CoreState) (z : Shadow) (related : Related target text setting state z) (c j : ℕ) → c < setting.sizes.callers → Frees setting state c j
     → (d r : ℕ) → related.beside.w.shared.protects d r ≢ 0 → (view setting state).memory (Hazard d r) ≢ j
 
--- of a proper text
+-- of a text that is proper for the setting's callers
 pub record KeepsQuiet (target : Target) (text : Text) (setting : Setting) : Type 0 where
   pub start : StartIsRelated target text setting
   pub steps : QuietStepsKeep target text setting
@@ -72,7 +72,7 @@ pub record KeepsQuiet (target : Target) (text : Text) (setting : Setting) : Type
   pub unwarned : RunsBeginUnwarned target text setting
 
 abbrev pub QuietIsKept : Target → Text → Setting → Type 0
-QuietIsKept target text setting = IsProper text → KeepsQuiet target text setting
+QuietIsKept target text setting = IsProperFor setting.sizes.callers text → KeepsQuiet target text setting
 
 -- every state that a core run comes to is in the relation with the run's shadow; the run's image is a source run that leads to the
 -- source state of the shadow, the replies of each caller agree with it, and each exchange of the text that a caller makes next
@@ -84,6 +84,6 @@ pub record Simulates (target : Target) (text : Text) (setting : Setting) (events
   pub guarded : (c r q : ℕ) → related.beside.w.shared.protects c r ≢ 0 → (view setting state).memory (Status ((view setting state).memory (Hazard c r))) ≢ status_word q kinds.Ready
   pub facts : Facts (record { target = target; text = text; setting = setting; home = related.home }) related.beside.w
 
--- of a proper text
+-- of a text that is proper for the setting's callers
 abbrev pub RunsAreSimulated : Target → Text → Setting → Type 0
-RunsAreSimulated target text setting = IsProper text → (events : List CoreEvent) (state : CoreState) → core_run target setting events (core_start target setting) ≡ Some state → Simulates target text setting events state
+RunsAreSimulated target text setting = IsProperFor setting.sizes.callers text → (events : List CoreEvent) (state : CoreState) → core_run target setting events (core_start target setting) ≡ Some state → Simulates target text setting events state

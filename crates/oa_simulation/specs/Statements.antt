@@ -18,7 +18,7 @@ use Rattle.source_machine.specs.declared.state.SourceMachine.{SourceMachine}
 use Rattle.source_machine.specs.Memory.{exchange}
 use Rattle.source_machine.specs.Step.{Performed, performed}
 use Rattle.source_machine.specs.Run.{IsSourceRun, source_replies}
-use Rattle.source_machine.specs.Proper.{IsProper}
+use Rattle.source_machine.specs.Proper.{IsProperFor}
 use Rattle.caller_parts.specs.declared.routine.Routine.{Routine}
 use Rattle.caller_parts.specs.declared.routine.Routine.TheVariants.{At, InList as InCoreList}
 use Rattle.caller_parts.specs.Settings.{Setting, Fits, IsSetting}
@@ -83,9 +83,9 @@ pub record Refined (target : Target) (text : Text) (setting : Setting) (events :
   pub agrees : Agrees state (shadow target text setting events).machine
   pub exchanges : ExchangesAgree target text setting state (shadow target text setting events).machine
 
--- of every core run of a barred target of a proper text, with a setting of optimistic access that fits it
+-- of every core run of a barred target of a text, with a setting of optimistic access that fits it and for whose callers the text is proper
 abbrev pub ForProper : (Target → Text → Setting → List CoreEvent → CoreState → Type 0) → Type 0
-ForProper Holds = (target : Target) (text : Text) (setting : Setting) (events : List CoreEvent) (state : CoreState) → MayBeWalked target text → IsBarred target text → IsSetting setting → Fits target setting → setting.reclamation ≡ Optimistic → IsProper text
+ForProper Holds = (target : Target) (text : Text) (setting : Setting) (events : List CoreEvent) (state : CoreState) → MayBeWalked target text → IsBarred target text → IsSetting setting → Fits target setting → setting.reclamation ≡ Optimistic → IsProperFor setting.sizes.callers text
     → core_run target setting events (core_start target setting) ≡ Some state → Holds target text setting events state
 
 abbrev pub Refines : Type 0

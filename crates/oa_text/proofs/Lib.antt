@@ -8,3 +8,4 @@ mod Digits
 mod LineLemmas
 mod NumberLemmas
 mod SliceLemmas
+mod WorkedLimits

@@ -8,3 +8,4 @@ pub mod Pieces
 pub mod StartPlaces
 pub mod Worked
 pub mod Names
+mod WorkedLimits

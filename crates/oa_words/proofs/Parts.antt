@@ -1,6 +1,7 @@
 -- Words and their parts give each other back.
 use Rattle.std.proofs.Common.{◌≡◌, ◌↔◌, ℕ, zero, suc, ◌+◌, ◌*◌, ◌/◌, ◌%◌, ◌<◌, ◌≤◌, Bool, true, false, Some, None, refl, sym, ◌∙◌, ap, arith}
 use Rattle.std.specs.Prelude.{◌==◌}
+use Rattle.std.proofs.Math.Nat.{mul-add-div, div-eq_of_lt, mul-add-mod_self_left, mod-eq_of_lt, mod-lt, div-add-mod}
 use Rattle.std.proofs.lemmas.Bool.Decides.{nat_tests}
 use Rattle.oa_words.specs.declared.packed.Kind.{Kind}
 use Rattle.oa_words.specs.declared.packed.Kind.TheVariants.{Ready, Used, Retired}
@@ -90,17 +91,27 @@ statuses_split = record { parts = status_back; whole = status_whole; equal = sta
 both_parts : (phase other top also : ℕ) → phase ≡ other → top ≡ also → ◌≡◌ {A = HeadParts} (record { phase = phase; top = top }) (record { phase = other; top = also })
 both_parts phase other top also p t = cc
 
-pub head_back : (phase top : ℕ) → top < 8192 → head_parts (head_word phase top) ≡ record { phase = phase; top = top }
-head_back phase top lt = both_parts (head_word phase top / 8192) phase (head_word phase top % 8192) top (omega (arith, lt)) (omega (arith, lt))
+pub head_back : (tops phase top : ℕ) → top < tops → head_parts tops (head_word tops phase top) ≡ record { phase = phase; top = top }
+head_back tops phase top lt =
+    let some : 0 < tops = omega (arith, lt) in
+    let above : head_word tops phase top / tops ≡ phase + top / tops = mul-add-div some phase top in
+    let none : top / tops ≡ 0 = div-eq_of_lt lt in
+    let below : head_word tops phase top % tops ≡ top % tops = mul-add-mod_self_left tops phase top in
+    both_parts (head_word tops phase top / tops) phase (head_word tops phase top % tops) top (omega (arith, above, none)) (below ∙ mod-eq_of_lt lt)
 
-top_small : (word : ℕ) → (head_parts word).top < 8192
-top_small word = omega arith
+pub top_small : (tops word : ℕ) → 1 ≤ tops → (head_parts tops word).top < tops
+top_small tops word some = mod-lt word (omega (arith, some))
 
-pub head_whole : (word : ℕ) → head_word (head_parts word).phase (head_parts word).top ≡ word
-head_whole word = omega arith
+pub head_whole : (tops word : ℕ) → head_word tops (head_parts tops word).phase (head_parts tops word).top ≡ word
+head_whole tops word = div-add-mod word tops
 
-head_equal : (phase other top also : ℕ) → top < 8192 → also < 8192 → head_word phase top ≡ head_word other also → (phase ≡ other) × (top ≡ also)
-head_equal phase other top also lt less e = (omega (arith, lt, less, e), omega (arith, lt, less, e))
+parts_equal : (p q : HeadParts) → p ≡ q → (p.phase ≡ q.phase) × (p.top ≡ q.top)
+parts_equal p q e = (ap (λ (r : HeadParts). r.phase) e, ap (λ (r : HeadParts). r.top) e)
 
-pub heads_split : HeadsSplit
-heads_split = record { parts = head_back; small = top_small; whole = head_whole; equal = head_equal }
+head_equal : (tops phase other top also : ℕ) → top < tops → also < tops → head_word tops phase top ≡ head_word tops other also → (phase ≡ other) × (top ≡ also)
+head_equal tops phase other top also lt less e =
+    parts_equal (record { phase = phase; top = top }) (record { phase = other; top = also })
+    (sym (head_back tops phase top lt) ∙ ap (head_parts tops) e ∙ head_back tops other also less)
+
+pub heads_split : (tops : ℕ) → 1 ≤ tops → HeadsSplit tops
+heads_split tops some = record { parts = head_back tops; small = λ word. top_small tops word some; whole = head_whole tops; equal = head_equal tops }

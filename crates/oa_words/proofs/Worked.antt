@@ -11,7 +11,7 @@ use Rattle.oa_words.specs.SlotKinds.{kind_of, range_of}
 use Rattle.oa_words.specs.Starts.{Beginning, first_home, start_words}
 
 abbrev small : Sizes
-small = record { callers = 1; slots = 3; fields = 2; cells = 1; kinds = 3 ∷ [] }
+small = record { callers = 1; slots = 3; fields = 2; cells = 1; kinds = 3 ∷ []; tops = 8192 }
 
 pub phase_stands : address_of small Phase ≡ 0
 phase_stands = refl
@@ -58,15 +58,41 @@ retired_status = refl
 pub kind_of_three : status_parts 7 ≡ None
 kind_of_three = refl
 
-pub head_of_two : head_word 3 2 ≡ 24578
+pub head_of_two : head_word 8192 3 2 ≡ 24578
 head_of_two = refl
 
-pub head_split : head_parts 24578 ≡ record { phase = 3; top = 2 }
+pub head_split : head_parts 8192 24578 ≡ record { phase = 3; top = 2 }
 head_split = refl
 
 -- the greatest head fits a word, with the greatest phase and slot
-pub greatest_head : head_parts (head_word (2 ^ 50) 4096) ≡ record { phase = 2 ^ 50; top = 4096 }
+pub greatest_head : head_parts 8192 (head_word 8192 (2 ^ 50) 4096) ≡ record { phase = 2 ^ 50; top = 4096 }
 greatest_head = refl
+
+-- heads of other rows: the least, whose tops are 0 to 3, and one of 16,777,216 tops
+pub head_of_least : head_word 4 3 2 ≡ 14
+head_of_least = refl
+
+pub least_split : head_parts 4 14 ≡ record { phase = 3; top = 2 }
+least_split = refl
+
+pub greatest_of_least : head_word 4 3 3 ≡ 15
+greatest_of_least = refl
+
+pub next_of_least : head_parts 4 16 ≡ record { phase = 4; top = 0 }
+next_of_least = refl
+
+pub head_of_wide : head_word (2 ^ 24) 3 2 ≡ 50331650
+head_of_wide = refl
+
+pub wide_split : head_parts (2 ^ 24) 50331650 ≡ record { phase = 3; top = 2 }
+wide_split = refl
+
+-- the greatest slot beside the greatest phase: all bits of a word
+pub greatest_of_wide : head_word (2 ^ 24) (2 ^ 40 - 1) (2 ^ 24 - 1) ≡ 2 ^ 64 - 1
+greatest_of_wide = refl
+
+pub greatest_wide_split : head_parts (2 ^ 24) (2 ^ 64 - 1) ≡ record { phase = 2 ^ 40 - 1; top = 2 ^ 24 - 1 }
+greatest_wide_split = refl
 
 -- ---- the start: the words of the head and of the links 0 to 3, in phase 3
 
@@ -102,6 +128,16 @@ pub start_worked : start_words small (begun (node ∷ [])) ≡
     ∷ 24578 ∷ 0 ∷ 0 ∷ 3 ∷ 0 ∷ []
 start_worked = refl
 
+-- the head and the links of the same row, but for tops below 4, and below 16,777,216
+abbrev chain_of : ℕ → List ℕ
+chain_of tops = drop 24 (start_words (record small { tops = tops }) (begun (node ∷ [])))
+
+pub starts_with_four_tops : chain_of 4 ≡ 14 ∷ 0 ∷ 0 ∷ 3 ∷ 0 ∷ []
+starts_with_four_tops = refl
+
+pub starts_wide : chain_of (2 ^ 24) ≡ 50331650 ∷ 0 ∷ 0 ∷ 3 ∷ 0 ∷ []
+starts_wide = refl
+
 abbrev with_slots : ℕ → Sizes
 with_slots slots = sizes_of_one 1 slots 1 1
 
@@ -131,7 +167,7 @@ short_node = refl
 -- ---- two kinds, of which one has slots 1 and 2, and the other slot 3; each has an initial node, and a cell names it
 
 abbrev two_kinds : Sizes
-two_kinds = record { callers = 1; slots = 3; fields = 2; cells = 2; kinds = 2 ∷ 1 ∷ [] }
+two_kinds = record { callers = 1; slots = 3; fields = 2; cells = 2; kinds = 2 ∷ 1 ∷ []; tops = 8192 }
 
 pub first_head_stands : address_of two_kinds (Head 0) ≡ 25
 first_head_stands = refl
@@ -168,7 +204,7 @@ two_kinds_worked = refl
 -- ---- four kinds with 1, 3, 2 and 4 slots, of which 0, 1, 2 and 1 have initial nodes; no caller has announced a phase
 
 abbrev four_kinds : Sizes
-four_kinds = record { callers = 1; slots = 10; fields = 1; cells = 1; kinds = 1 ∷ 3 ∷ 2 ∷ 4 ∷ [] }
+four_kinds = record { callers = 1; slots = 10; fields = 1; cells = 1; kinds = 1 ∷ 3 ∷ 2 ∷ 4 ∷ []; tops = 8192 }
 
 abbrev four_counts : List ℕ
 four_counts = 0 ∷ 1 ∷ 2 ∷ 1 ∷ []
@@ -219,7 +255,7 @@ callers_before_kinds = refl
 pub kind_without_slot : with_kinds 2 (1 ∷ 0 ∷ 1 ∷ 1 ∷ []) ≡ Err faults.Slots
 kind_without_slot = refl
 
-pub most_slots_of_two : with_kinds 2 (4095 ∷ 1 ∷ 0 ∷ 0 ∷ []) ≡ Ok (record { callers = 1; slots = 4096; fields = 1; cells = 1; kinds = 4095 ∷ 1 ∷ [] })
+pub most_slots_of_two : with_kinds 2 (4095 ∷ 1 ∷ 0 ∷ 0 ∷ []) ≡ Ok (record { callers = 1; slots = 4096; fields = 1; cells = 1; kinds = 4095 ∷ 1 ∷ []; tops = 8192 })
 most_slots_of_two = refl
 
 pub too_many_together : with_kinds 2 (4096 ∷ 1 ∷ 0 ∷ 0 ∷ []) ≡ Err faults.Slots
@@ -230,5 +266,5 @@ pub sum_past_a_word : with_kinds 2 ((2 ^ 64 - 1) ∷ 2 ∷ 0 ∷ 0 ∷ []) ≡ E
 sum_past_a_word = refl
 
 -- what stands past the kinds isn't looked at
-pub slots_past_the_kinds : with_kinds 1 (3 ∷ 0 ∷ 5000 ∷ 0 ∷ []) ≡ Ok (record { callers = 1; slots = 3; fields = 1; cells = 1; kinds = 3 ∷ [] })
+pub slots_past_the_kinds : with_kinds 1 (3 ∷ 0 ∷ 5000 ∷ 0 ∷ []) ≡ Ok (record { callers = 1; slots = 3; fields = 1; cells = 1; kinds = 3 ∷ []; tops = 8192 })
 slots_past_the_kinds = refl

@@ -25,12 +25,12 @@ pub record StatusesSplit : Type 0 where
   pub equal : (phase other : ℕ) (kind also : Kind) → status_word phase kind ≡ status_word other also → (phase ≡ other) × (kind ≡ also)
   pub none : (word : ℕ) → (status_parts word ≡ None) ↔ (word % 4 ≡ 3)
 
--- a head and its parts: each gives back the other, if the top is a slot of some row
-pub record HeadsSplit : Type 0 where
-  pub parts : (phase top : ℕ) → top < 8192 → head_parts (head_word phase top) ≡ record { phase = phase; top = top }
-  pub small : (word : ℕ) → (head_parts word).top < 8192
-  pub whole : (word : ℕ) → head_word (head_parts word).phase (head_parts word).top ≡ word
-  pub equal : (phase other top also : ℕ) → top < 8192 → also < 8192 → head_word phase top ≡ head_word other also → (phase ≡ other) × (top ≡ also)
+-- a head and its parts: each gives back the other, if the top is below the row's number
+pub record HeadsSplit (tops : ℕ) : Type 0 where
+  pub parts : (phase top : ℕ) → top < tops → head_parts tops (head_word tops phase top) ≡ record { phase = phase; top = top }
+  pub small : (word : ℕ) → (head_parts tops word).top < tops
+  pub whole : (word : ℕ) → head_word tops (head_parts tops word).phase (head_parts tops word).top ≡ word
+  pub equal : (phase other top also : ℕ) → top < tops → also < tops → head_word tops phase top ≡ head_word tops other also → (phase ≡ other) × (top ≡ also)
 
 -- at the start each word says what its name does, and there are no other words
 pub record StartsAsNamed (n : Sizes) (start : Beginning) : Type 0 where

@@ -44,9 +44,9 @@ pub record HeadParts : Type 0 where
   pub phase : ℕ
   pub top : ℕ
 
--- a top is below 8192: there are at most 4096 slots
-abbrev pub head_word : ℕ → ℕ → ℕ
-head_word phase top = 8192 * phase + top
+-- the word of a head whose top is below a number, which each row has for its own
+abbrev pub head_word : ℕ → ℕ → ℕ → ℕ
+head_word tops phase top = tops * phase + top
 
-abbrev pub head_parts : ℕ → HeadParts
-head_parts word = record { phase = word / 8192; top = word % 8192 }
+abbrev pub head_parts : ℕ → ℕ → HeadParts
+head_parts tops word = record { phase = word / tops; top = word % tops }

@@ -76,7 +76,7 @@ abbrev pub link_at_start : Sizes → Beginning → ℕ → ℕ
 link_at_start n start j = start_link (range_at n j) (nodes_of start (kind_of n j)) j
 
 abbrev pub start_head : Sizes → Beginning → ℕ → ℕ
-start_head n start t = head_word start.first (start_top (range_of n t) (nodes_of start t))
+start_head n start t = head_word n.tops start.first (start_top (range_of n t) (nodes_of start t))
 
 -- what each word says at the start
 abbrev pub start_word : Sizes → Beginning → Word → ℕ

@@ -13,14 +13,16 @@ pub data Word : Type 0 where
   Head : (t : ℕ) → Word
   Link : (j : ℕ) → Word
 
--- how many callers, slots other than 0, fields of a slot, and cells there are, and how many slots each kind of nodes has, which
--- together are all of them. A slot has as many fields as the kind with the most
+-- how many callers, slots other than 0, fields of a slot, and cells there are, how many slots each kind of nodes has, which together
+-- are all of them, and the number below which the slot stands that a head's word names. A slot has as many fields as the kind with the
+-- most
 pub record Sizes : Type 0 where
   pub callers : ℕ
   pub slots : ℕ
   pub fields : ℕ
   pub cells : ℕ
   pub kinds : List ℕ
+  pub tops : ℕ
 
 -- slots from one number to another, both among them
 pub record SlotRange : Type 0 where

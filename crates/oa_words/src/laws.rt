@@ -1,5 +1,6 @@
 //! What holds of all words, for the crates above.
 
+ghost use Rattle.std.specs.Prelude.{ℕ, ◌≤◌};
 ghost use Rattle.oa_words.specs.Laws.{WordsStandApart, ReferencesSplit, StatusesSplit, HeadsSplit, StartsAsNamed, KindsHaveRanges, NodesHaveHomes};
 ghost use Rattle.oa_words.specs.Starts.{Beginning, Suits};
 
@@ -23,10 +24,12 @@ pub fn statuses_split()
     ensures { StatusesSplit }
 {}
 
-/// The word of a head and its parts give each other back.
+/// The word of a head and its parts give each other back, whatever the number below which the top stands.
 #[tactic(auto, using(crate::proofs::Parts::heads_split))]
 pub fn heads_split()
-    ensures { HeadsSplit }
+    ghost tops: { ℕ }
+    requires { 1 ≤ tops }
+    ensures { HeadsSplit tops }
 {}
 
 /// The list of words at the start says of each word what its name does.

@@ -14,3 +14,6 @@ pub const MOST_FIELDS: u32 = 4;
 
 /// Cells: one for each root.
 pub const MOST_CELLS: u32 = 256;
+
+/// A head's word is this number times a phase, and a slot below it.
+pub const TOPS: u64 = 8192;

@@ -1,7 +1,10 @@
 //! References, statuses and the pool's head as words.
 
-ghost use Rattle.std.specs.Prelude.{◌≡◌, ◌≤◌, ◌<◌, ◌^◌, option_map};
+ghost use Rattle.std.specs.Prelude.{◌≡◌, ◌≤◌, ◌<◌, ◌+◌, ◌*◌, ◌^◌, option_map};
 ghost use Rattle.oa_words.specs.Packed.{ref_word, slot_part, is_marked, status_word, status_parts, status_kind_of, kind_number, head_word, head_parts};
+ghost use Rattle.oa_words.specs.declared.limits.TheConstants.{TOPS};
+
+use crate::limits::TOPS;
 
 /// What a slot is.
 #[derive(Clone, Copy, PartialEq, Eq)]
@@ -48,12 +51,12 @@ fn kind_number(kind: Kind) -> u64
     }
 }
 
-/// The word of a slot's status: four times the phase, and the number of the kind. The phase is at most 2^61.
+/// The word of a slot's status: four times the phase, and the number of the kind. The phase is below 2^62.
 ///
 /// A retired slot bears the phase in which it was retired, a ready one that of the sweep that made it ready, as the
 /// local pools of Cohen and Petrank (SPAA 2015) are stamped with theirs.
 pub fn status_word(phase: u64, kind: Kind) -> u64
-    requires { phase ≤ 2 ^ 61 }
+    requires { 4 * phase + 4 ≤ 2 ^ 64 }
     ensures { result ≡ status_word phase kind }
 {
     4 * phase + kind_number(kind)
@@ -78,7 +81,7 @@ pub fn status_parts(word: u64) -> Option<(u64, Kind)>
     Some((word / 4, kind))
 }
 
-/// The word of the pool's head: 8192 times the phase, and the slot on top, 0 for none. The phase is at most 2^50, and the
+/// The word of the head of a document's row: 8192 times the phase, and the slot on top, 0 for none. The phase is at most 2^50, and the
 /// slot at most 4096.
 ///
 /// The ready slots form the stack of Treiber ("Systems Programming: Coping with Parallelism", IBM Almaden RJ 5118, 1986),
@@ -87,14 +90,14 @@ pub fn status_parts(word: u64) -> Option<(u64, Kind)>
 pub fn head_word(phase: u64, top: u32) -> u64
     requires phase { phase ≤ 2 ^ 50 }
     requires top { top ≤ 4096 }
-    ensures { result ≡ head_word phase top }
+    ensures { result ≡ head_word TOPS phase top }
 {
-    8192 * phase + top as u64
+    TOPS * phase + top as u64
 }
 
-/// The phase of the pool's head, and the slot on top, 0 for none.
+/// The phase of the head of a document's row, and the slot on top, 0 for none.
 pub fn head_parts(word: u64) -> (u64, u64)
-    ensures { record { phase = result.0; top = result.1 } ≡ head_parts word }
+    ensures { record { phase = result.0; top = result.1 } ≡ head_parts TOPS word }
 {
-    (word / 8192, word % 8192)
+    (word / TOPS, word % TOPS)
 }

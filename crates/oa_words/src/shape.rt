@@ -5,7 +5,7 @@ ghost use Rattle.std.specs.List.{list_all};
 ghost use Rattle.oa_words.specs.Words.{Phase, Place, Warning, Hazard, Status, FieldOf, Cell, Head, Link, address_of, word_count};
 ghost use Rattle.oa_words.specs.SlotKinds.{together, kind_in, slots_of, kind_of};
 ghost use Rattle.oa_words.specs.declared.limits.TheConstants.{MOST_SLOTS};
-ghost use Rattle.oa_words.specs.Within.{sizes_or_fault, sizes_of_kinds, sizes_of_one, is_count, AreSizes};
+ghost use Rattle.oa_words.specs.Within.{sizes_or_fault, sizes_of_kinds, sizes_of_one, is_count, AreSizes, AreSmall};
 
 use crate::limits::{MOST_CALLERS, MOST_CELLS, MOST_FIELDS, MOST_KINDS, MOST_SLOTS};
 use std::marker::Model;
@@ -25,13 +25,17 @@ pub struct Shape {
 impl Model for Shape {
     ghost use Rattle.std.specs.Prelude.{take, ◌≤◌};
     ghost use Rattle.oa_words.specs.Words.{Sizes};
-    ghost use Rattle.oa_words.specs.Within.{AreSizes};
+    ghost use Rattle.oa_words.specs.Within.{AreSizes, AreSmall};
+    ghost use Rattle.oa_words.specs.declared.limits.TheConstants.{TOPS};
 
     ghost Value = { Sizes };
 
-    ghost view = { λ s. record { callers = s.callers; slots = s.slots; fields = s.fields; cells = s.cells; kinds = take s.kinds s.counts } };
+    ghost view = { λ s. record { callers = s.callers; slots = s.slots; fields = s.fields; cells = s.cells; kinds = take s.kinds s.counts; tops = TOPS } };
 
-    ghost invariant = { λ s. AreSizes (record { callers = s.callers; slots = s.slots; fields = s.fields; cells = s.cells; kinds = take s.kinds s.counts }) × (s.kinds ≤ 4) };
+    ghost invariant = { λ s.
+        AreSizes (record { callers = s.callers; slots = s.slots; fields = s.fields; cells = s.cells; kinds = take s.kinds s.counts; tops = TOPS })
+        × AreSmall (record { callers = s.callers; slots = s.slots; fields = s.fields; cells = s.cells; kinds = take s.kinds s.counts; tops = TOPS })
+        × (s.kinds ≤ 4) };
 }
 
 /// Which number is outside its range.
@@ -164,8 +168,10 @@ impl Shape {
     }
 
     /// What every shape keeps: a law for those who hold one. The body reads a field, which makes the invariant known.
+    #[inline(always)]
     pub fn kept(&self)
-        ensures { AreSizes self.now }
+        ensures sizes { AreSizes self.now }
+        ensures small { AreSmall self.now }
     {
         let _ = &self.kinds;
     }

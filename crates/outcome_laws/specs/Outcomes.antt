@@ -22,7 +22,7 @@ steps_from key e (word ∷ words) = record { entry = e; found = word } ∷ steps
 -- the pool is full exactly if the last of them was the third look of a claim, which found no slot
 pub record OutcomeIsCaused (setting : Setting) (outcome : Outcome) (steps : List StepMade) : Type 0 where
   pub phases : (p : ℕ) → (outcome ≡ outcomes.PhasesOver p) ↔ FoundLastPhase setting p steps
-  pub full : (outcome ≡ outcomes.Full) ↔ EndsInFailedLook steps
+  pub full : (outcome ≡ outcomes.Full) ↔ EndsInFailedLook setting steps
 
 -- ---- laws
 

@@ -37,7 +37,7 @@ at_stage : (n : Sizes) (last word : ℕ) (sweep : Sweep) (claim : Claim) (stage 
 at_stage n last word sweep claim sweeps.ReadPhase = over sweep word claim (word == last)
 at_stage n last word sweep claim (sweeps.ReadStatus j) = from_status Onward n sweep j (status_parts word) (on n sweep j) (λ p is below away claim. refl) claim
 at_stage n last word sweep claim (sweeps.MakeReady j q) = either (word == status_word q kinds.Retired) _ _ (λ claim. refl) (on n sweep j) claim
-at_stage n last word sweep claim (sweeps.PushTop k j q t) = either (word == head_word q t) _ _ (on n sweep j) (λ claim. refl) claim
+at_stage n last word sweep claim (sweeps.PushTop k j q t) = either (word == head_word n.tops q t) _ _ (on n sweep j) (λ claim. refl) claim
 at_stage n last word sweep claim _ = refl
 
 pub sweep_end : (n : Sizes) (last word : ℕ) (claim : Claim) → (claim_sweeps claim (sweep_accepts n last claim.sweep word)).ended ≡ phases_end (finds_last last claim.sweep.stage word) word

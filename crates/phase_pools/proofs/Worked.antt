@@ -15,7 +15,7 @@ use Rattle.phase_pools.proofs.Runs.{sweep_run, claim_run, retire_run, sweep_told
 -- 1 caller, 3 slots, 2 fields, 1 cell. A status is 4 times the phase, and 0 for ready, 1 for used, 2 for retired; the head is
 -- 8192 times its phase, and the slot on top
 abbrev small : Sizes
-small = record { callers = 1; slots = 3; fields = 2; cells = 1; kinds = 3 ∷ [] }
+small = record { callers = 1; slots = 3; fields = 2; cells = 1; kinds = 3 ∷ []; tops = 8192 }
 
 -- its words: the phase, the warning, the first hazard, the statuses of slots 0 to 3, and the head with the links of slots 0
 -- to 3; all others are 0
@@ -44,7 +44,7 @@ hazards_of c = Loads (Hazard c 0) ∷ Loads (Hazard c 1) ∷ Loads (Hazard c 2) 
 -- ---- two sweeps, one after another
 
 -- slot 1 is used, slots 2 and 3 were retired in phase 1, and slot 3 is guarded
-pub first_sweep : sweep_run small 5 100 None (sweep_begun Warned) (row 1 1 3 (kinds 5 6 6) no_chain) ≡ record {
+pub first_sweep : sweep_run small 5 100 None (sweep_begun 8192 Warned) (row 1 1 3 (kinds 5 6 6) no_chain) ≡ record {
   accesses = Loads Phase ∷ Exchanges Phase 1 2 ∷ Raises (Warning 0) 2 ∷ []
       ++ hazards_of 0
       ++ Loads (Status 3) ∷ Loads (Status 2) ∷ Exchanges (Status 2) 6 8 ∷ []
@@ -55,7 +55,7 @@ pub first_sweep : sweep_run small 5 100 None (sweep_begun Warned) (row 1 1 3 (ki
 first_sweep = refl
 
 -- then slot 1 was retired in phase 2, and slot 3 isn't guarded any more: both are pushed, slot 3 first
-pub second_sweep : sweep_run small 5 100 None (sweep_begun Warned) (row 2 2 0 (kinds 10 8 6) (chain 16386 0 0 0)) ≡ record {
+pub second_sweep : sweep_run small 5 100 None (sweep_begun 8192 Warned) (row 2 2 0 (kinds 10 8 6) (chain 16386 0 0 0)) ≡ record {
   accesses = Loads Phase ∷ Exchanges Phase 2 3 ∷ Raises (Warning 0) 3 ∷ []
       ++ hazards_of 0
       ++ Loads (Status 3) ∷ Exchanges (Status 3) 6 12 ∷ Loads (Head 0) ∷ Stores (Link 3) 2 ∷ Exchanges (Head 0) 16386 24579 ∷ []
@@ -67,7 +67,7 @@ pub second_sweep : sweep_run small 5 100 None (sweep_begun Warned) (row 2 2 0 (k
 second_sweep = refl
 
 -- in the last phase a sweep ends with its first access
-pub sweep_in_last_phase : sweep_run small 5 100 None (sweep_begun Warned) (row 5 5 0 (kinds 5 6 6) no_chain) ≡ record {
+pub sweep_in_last_phase : sweep_run small 5 100 None (sweep_begun 8192 Warned) (row 5 5 0 (kinds 5 6 6) no_chain) ≡ record {
   accesses = Loads Phase ∷ [];
   words = row 5 5 0 (kinds 5 6 6) no_chain;
   ended = Some (swept.PhasesOver 5);
@@ -75,7 +75,7 @@ pub sweep_in_last_phase : sweep_run small 5 100 None (sweep_begun Warned) (row 5
 sweep_in_last_phase = refl
 
 -- a slot that was retired in the very phase that the sweep announces stays retired
-pub own_phase_stays : sweep_run small 5 100 None (sweep_begun Warned) (row 1 1 0 (kinds 5 10 5) no_chain) ≡ record {
+pub own_phase_stays : sweep_run small 5 100 None (sweep_begun 8192 Warned) (row 1 1 0 (kinds 5 10 5) no_chain) ≡ record {
   accesses = Loads Phase ∷ Exchanges Phase 1 2 ∷ Raises (Warning 0) 2 ∷ []
       ++ hazards_of 0
       ++ Loads (Status 3) ∷ Loads (Status 2) ∷ Loads (Status 1) ∷ [];
@@ -87,7 +87,7 @@ own_phase_stays = refl
 -- ---- sweeps beside other callers, which announce phase 3
 
 abbrev sweep_at : SweepStage → Sweep
-sweep_at stage = record { scheme = Warned; stage = stage; bound = 3; low = 3; gathered = [] }
+sweep_at stage = record { scheme = Warned; tops = 8192; stage = stage; bound = 3; low = 3; gathered = [] }
 
 -- after the head was loaded with slot 1 on top, another slot came on top: the push begins again, and stores the link again
 pub push_after_failed_exchange : sweep_told small 5 (16385 ∷ 0 ∷ 16387 ∷ 16387 ∷ 1 ∷ 16387 ∷ []) None (sweep_at (sweeps.PushHead 0 2)) ≡ record {
@@ -116,7 +116,7 @@ lost_slot_is_not_pushed = refl
 -- ---- all 64 hazards are set
 
 abbrev large : Sizes
-large = record { callers = 8; slots = 3; fields = 1; cells = 1; kinds = 3 ∷ [] }
+large = record { callers = 8; slots = 3; fields = 1; cells = 1; kinds = 3 ∷ []; tops = 8192 }
 
 abbrev eight : ℕ → List ℕ
 eight word = word ∷ word ∷ word ∷ word ∷ word ∷ word ∷ word ∷ word ∷ []
@@ -133,7 +133,7 @@ guarded_row phase three head =
     ++ (0 ∷ 0 ∷ 0 ∷ 0 ∷ 0 ∷ [])
     ++ chain head 0 0 0
 
-pub guarded_slots_stay : sweep_run large 5 200 None (sweep_begun Warned) (guarded_row 1 6 8192) ≡ record {
+pub guarded_slots_stay : sweep_run large 5 200 None (sweep_begun 8192 Warned) (guarded_row 1 6 8192) ≡ record {
   accesses = Loads Phase ∷ Exchanges Phase 1 2 ∷ []
       ++ (Raises (Warning 0) 2 ∷ Raises (Warning 1) 2 ∷ Raises (Warning 2) 2 ∷ Raises (Warning 3) 2 ∷ Raises (Warning 4) 2 ∷ Raises (Warning 5) 2 ∷ Raises (Warning 6) 2 ∷ Raises (Warning 7) 2 ∷ [])
       ++ hazards_of 0 ++ hazards_of 1 ++ hazards_of 2 ++ hazards_of 3 ++ hazards_of 4 ++ hazards_of 5 ++ hazards_of 6 ++ hazards_of 7
@@ -161,6 +161,35 @@ pub claim_of_one : claim_run small 5 100 None (claim_begun small 0 Warned) (row 
   ended = Some (ends.Claimed 3);
 }
 claim_of_one = refl
+
+-- the first in rows of other tops: heads are 4 times the phase, or 16,777,216 times
+abbrev with_tops : ℕ → Sizes
+with_tops tops = record small { tops = tops }
+
+pub claim_of_four_tops : claim_run (with_tops 4) 5 100 None (claim_begun (with_tops 4) 0 Warned) (row 1 1 0 (kinds 5 4 4) (chain 6 0 3 0)) ≡ record {
+  accesses = Loads (Head 0) ∷ Loads (Link 2) ∷ Exchanges (Head 0) 6 7 ∷ Stores (Status 2) 5 ∷ [];
+  words = row 1 1 0 (kinds 5 5 4) (chain 7 0 3 0);
+  ended = Some (ends.Claimed 2);
+}
+claim_of_four_tops = refl
+
+pub claim_of_wide_tops : claim_run (with_tops 16777216) 5 100 None (claim_begun (with_tops 16777216) 0 Warned) (row 1 1 0 (kinds 5 4 4) (chain 16777218 0 3 0)) ≡ record {
+  accesses = Loads (Head 0) ∷ Loads (Link 2) ∷ Exchanges (Head 0) 16777218 16777219 ∷ Stores (Status 2) 5 ∷ [];
+  words = row 1 1 0 (kinds 5 5 4) (chain 16777219 0 3 0);
+  ended = Some (ends.Claimed 2);
+}
+claim_of_wide_tops = refl
+
+-- the first sweep in a row of four tops: slot 2 is pushed under phase 2, where none was on top under phase 1
+pub sweep_of_four_tops : sweep_run (with_tops 4) 5 100 None (sweep_begun 4 Warned) (row 1 1 3 (kinds 5 6 6) (chain 4 0 0 0)) ≡ record {
+  accesses = Loads Phase ∷ Exchanges Phase 1 2 ∷ Raises (Warning 0) 2 ∷ []
+      ++ hazards_of 0
+      ++ Loads (Status 3) ∷ Loads (Status 2) ∷ Exchanges (Status 2) 6 8 ∷ []
+      ++ Loads (Head 0) ∷ Stores (Link 2) 0 ∷ Exchanges (Head 0) 4 10 ∷ Loads (Status 1) ∷ [];
+  words = row 2 2 3 (kinds 5 8 6) (chain 10 0 0 0);
+  ended = Some swept.Swept;
+}
+sweep_of_four_tops = refl
 
 -- a sweep that makes no slot ready
 abbrev idle_sweep : ℕ → ℕ → List WordAccess
@@ -231,15 +260,15 @@ look_that_lost_last_slot = refl
 
 -- a claim is counted if its exchange succeeds, and with no other access
 abbrev claim_at : ClaimStage → Claim
-claim_at stage = record { kind = 0; stage = stage; sweeps = 0; sweep = sweep_begun Warned }
+claim_at stage = record { kind = 0; stage = stage; sweeps = 0; sweep = sweep_begun 8192 Warned }
 
-pub exchange_takes : claim_takes (claim_at (claims.Take 1 2 3)) 8194 ≡ true
+pub exchange_takes : claim_takes small (claim_at (claims.Take 1 2 3)) 8194 ≡ true
 exchange_takes = refl
 
-pub failed_exchange_takes_nothing : claim_takes (claim_at (claims.Take 1 2 3)) 8195 ≡ false
+pub failed_exchange_takes_nothing : claim_takes small (claim_at (claims.Take 1 2 3)) 8195 ≡ false
 failed_exchange_takes_nothing = refl
 
-pub store_takes_nothing : claim_takes (claim_at (claims.StoreUsed 1 2)) 8194 ≡ false
+pub store_takes_nothing : claim_takes small (claim_at (claims.StoreUsed 1 2)) 8194 ≡ false
 store_takes_nothing = refl
 
 -- ---- a retirement
@@ -254,7 +283,7 @@ retirement = refl
 -- ---- two kinds: slots 1 and 2 are of the first, slot 3 is of the second. 1 caller, 1 field, 1 cell
 
 abbrev mixed : Sizes
-mixed = record { callers = 1; slots = 3; fields = 1; cells = 1; kinds = 2 ∷ 1 ∷ [] }
+mixed = record { callers = 1; slots = 3; fields = 1; cells = 1; kinds = 2 ∷ 1 ∷ []; tops = 8192 }
 
 -- its words: the phase, which its warning says too, the statuses of slots 0 to 3, and both heads with the links of slots 0 to 3
 abbrev mixed_row : (phase : ℕ) → (statuses : List ℕ) → (first_head second_head : ℕ) → List ℕ
@@ -287,7 +316,7 @@ claim_of_second_kind = refl
 -- ---- callers that announce phases: 2 callers, 3 slots, 1 field, 1 cell
 
 abbrev pair : Sizes
-pair = record { callers = 2; slots = 3; fields = 1; cells = 1; kinds = 3 ∷ [] }
+pair = record { callers = 2; slots = 3; fields = 1; cells = 1; kinds = 3 ∷ []; tops = 8192 }
 
 -- its words: the phase, what the two callers have announced, and the statuses and the chain; no hazard is set
 abbrev pair_row : (phase zero_announced one_announced : ℕ) → (statuses chain : List ℕ) → List ℕ
@@ -301,7 +330,7 @@ abbrev no_slot_on_top : List ℕ
 no_slot_on_top = chain 8192 0 0 0
 
 -- caller 1 has announced phase 4: of slots 1 and 2, which were retired in phases 4 and 3, only the second becomes ready
-pub announced_sweep : sweep_run pair 9 100 None (sweep_begun (Announced 0)) (pair_row 5 0 4 (kinds 18 14 21) no_slot_on_top) ≡ record {
+pub announced_sweep : sweep_run pair 9 100 None (sweep_begun 8192 (Announced 0)) (pair_row 5 0 4 (kinds 18 14 21) no_slot_on_top) ≡ record {
   accesses = Loads Phase ∷ Exchanges Phase 5 6 ∷ Loads (Warning 0) ∷ Loads (Warning 1) ∷ []
       ++ Loads (Status 3) ∷ Loads (Status 2) ∷ Exchanges (Status 2) 14 24 ∷ Loads (Head 0) ∷ Stores (Link 2) 0 ∷ Exchanges (Head 0) 8192 49154 ∷ []
       ++ Loads (Status 1) ∷ [];

@@ -28,17 +28,18 @@ has_lower n j = nat_lt (slot_range n).first j
 
 -- ---- sweeps
 
--- a sweep: its scheme, where it stands, the phase to which it raises (0 before it has one), the phase before which it recycles, which
--- is never greater, and the slots gathered
+-- a sweep: its scheme, the number below which the tops of the row's heads stand, where it stands, the phase to which it raises (0
+-- before it has one), the phase before which it recycles, which is never greater, and the slots gathered
 pub record Sweep : Type 0 where
   pub scheme : Scheme
+  pub tops : ℕ
   pub stage : SweepStage
   pub bound : ℕ
   pub low : ℕ
   pub gathered : List ℕ
 
-abbrev pub sweep_begun : Scheme → Sweep
-sweep_begun scheme = record { scheme = scheme; stage = sweeps.ReadPhase; bound = 0; low = 0; gathered = [] }
+abbrev pub sweep_begun : ℕ → Scheme → Sweep
+sweep_begun tops scheme = record { scheme = scheme; tops = tops; stage = sweeps.ReadPhase; bound = 0; low = 0; gathered = [] }
 
 -- a caller's warning is raised, or the phase that it has announced there is loaded
 abbrev pub warn_wanted : Scheme → ℕ → ℕ → WordAccess
@@ -46,19 +47,19 @@ warn_wanted Warned c s = Raises (Warning c) s
 warn_wanted (Announced own) c s = Loads (Warning c)
 
 -- a push goes to the head of its slot's kind
-abbrev pub sweep_wants_at : Scheme → SweepStage → ℕ → WordAccess
-sweep_wants_at scheme sweeps.ReadPhase s = Loads Phase
-sweep_wants_at scheme (sweeps.RaisePhase p) s = Exchanges Phase p (p + 1)
-sweep_wants_at scheme (sweeps.Warn c) s = warn_wanted scheme c s
-sweep_wants_at scheme (sweeps.ReadHazard c r) s = Loads (Hazard c r)
-sweep_wants_at scheme (sweeps.ReadStatus j) s = Loads (Status j)
-sweep_wants_at scheme (sweeps.MakeReady j q) s = Exchanges (Status j) (status_word q kinds.Retired) (status_word s kinds.Ready)
-sweep_wants_at scheme (sweeps.PushHead k j) s = Loads (Head k)
-sweep_wants_at scheme (sweeps.PushLink j q t) s = Stores (Link j) t
-sweep_wants_at scheme (sweeps.PushTop k j q t) s = Exchanges (Head k) (head_word q t) (head_word (max q s) j)
+abbrev pub sweep_wants_at : ℕ → Scheme → SweepStage → ℕ → WordAccess
+sweep_wants_at tops scheme sweeps.ReadPhase s = Loads Phase
+sweep_wants_at tops scheme (sweeps.RaisePhase p) s = Exchanges Phase p (p + 1)
+sweep_wants_at tops scheme (sweeps.Warn c) s = warn_wanted scheme c s
+sweep_wants_at tops scheme (sweeps.ReadHazard c r) s = Loads (Hazard c r)
+sweep_wants_at tops scheme (sweeps.ReadStatus j) s = Loads (Status j)
+sweep_wants_at tops scheme (sweeps.MakeReady j q) s = Exchanges (Status j) (status_word q kinds.Retired) (status_word s kinds.Ready)
+sweep_wants_at tops scheme (sweeps.PushHead k j) s = Loads (Head k)
+sweep_wants_at tops scheme (sweeps.PushLink j q t) s = Stores (Link j) t
+sweep_wants_at tops scheme (sweeps.PushTop k j q t) s = Exchanges (Head k) (head_word tops q t) (head_word tops (max q s) j)
 
 abbrev pub sweep_wants : Sweep → WordAccess
-sweep_wants sweep = sweep_wants_at sweep.scheme sweep.stage sweep.bound
+sweep_wants sweep = sweep_wants_at sweep.tops sweep.scheme sweep.stage sweep.bound
 
 -- a sweep that goes on, and one that has ended; the state of one that has ended doesn't matter
 pub record SweepTurn : Type 0 where
@@ -130,7 +131,7 @@ push_read sweep j head = sweep_goes sweep (sweeps.PushLink j head.phase head.top
 
 -- the exchange succeeds exactly if it found what was expected; otherwise the push begins again, with the head loaded once more
 abbrev pub pushed : Sizes → Sweep → ℕ → ℕ → ℕ → ℕ → SweepTurn
-pushed n sweep j q t word = if word == head_word q t then sweep_on n sweep j else sweep_goes sweep (sweeps.PushHead (kind_of n j) j)
+pushed n sweep j q t word = if word == head_word n.tops q t then sweep_on n sweep j else sweep_goes sweep (sweeps.PushHead (kind_of n j) j)
 
 -- whether the exchange of the phase succeeds or not, the phase that was loaded is over
 abbrev pub phase_raised : Sweep → ℕ → SweepTurn
@@ -143,7 +144,7 @@ sweep_accepts_at n last sweep word (sweeps.Warn c) = warned n sweep c word
 sweep_accepts_at n last sweep word (sweeps.ReadHazard c r) = hazard_read n sweep c r word
 sweep_accepts_at n last sweep word (sweeps.ReadStatus j) = status_read n sweep j (status_parts word)
 sweep_accepts_at n last sweep word (sweeps.MakeReady j q) = made_ready n sweep j q word
-sweep_accepts_at n last sweep word (sweeps.PushHead k j) = push_read sweep j (head_parts word)
+sweep_accepts_at n last sweep word (sweeps.PushHead k j) = push_read sweep j (head_parts n.tops word)
 sweep_accepts_at n last sweep word (sweeps.PushLink j q t) = sweep_goes sweep (sweeps.PushTop (kind_of n j) j q t)
 sweep_accepts_at n last sweep word (sweeps.PushTop k j q t) = pushed n sweep j q t word
 
@@ -154,7 +155,7 @@ sweep_accepts n last sweep word = sweep_accepts_at n last sweep word sweep.stage
 -- ---- claims: look, sweep, look, sweep, look
 
 -- a claim: the kind of which it takes a slot, where it stands, how many of its sweeps have ended, and the sweep under way, or the
--- last one, which has the claim's scheme
+-- last one, which has the claim's scheme and the row's tops
 pub record Claim : Type 0 where
   pub kind : ℕ
   pub stage : ClaimStage
@@ -162,19 +163,19 @@ pub record Claim : Type 0 where
   pub sweep : Sweep
 
 abbrev pub claim_begun : Sizes → ℕ → Scheme → Claim
-claim_begun n kind scheme = record { kind = kind; stage = claims.ReadHead; sweeps = 0; sweep = sweep_begun scheme }
+claim_begun n kind scheme = record { kind = kind; stage = claims.ReadHead; sweeps = 0; sweep = sweep_begun n.tops scheme }
 
 -- looks go to the head of the claim's kind
-abbrev pub claim_wants_at : ℕ → Sweep → ClaimStage → WordAccess
-claim_wants_at kind sweep claims.ReadHead = Loads (Head kind)
-claim_wants_at kind sweep (claims.ReadLink q t) = Loads (Link t)
-claim_wants_at kind sweep (claims.Take q t next) = Exchanges (Head kind) (head_word q t) (head_word q next)
-claim_wants_at kind sweep (claims.StoreUsed q t) = Stores (Status t) (status_word q kinds.Used)
-claim_wants_at kind sweep (claims.Withdraw own) = Stores (Warning own) 0
-claim_wants_at kind sweep claims.Sweeps = sweep_wants sweep
+abbrev pub claim_wants_at : ℕ → ℕ → Sweep → ClaimStage → WordAccess
+claim_wants_at tops kind sweep claims.ReadHead = Loads (Head kind)
+claim_wants_at tops kind sweep (claims.ReadLink q t) = Loads (Link t)
+claim_wants_at tops kind sweep (claims.Take q t next) = Exchanges (Head kind) (head_word tops q t) (head_word tops q next)
+claim_wants_at tops kind sweep (claims.StoreUsed q t) = Stores (Status t) (status_word q kinds.Used)
+claim_wants_at tops kind sweep (claims.Withdraw own) = Stores (Warning own) 0
+claim_wants_at tops kind sweep claims.Sweeps = sweep_wants_at tops sweep.scheme sweep.stage sweep.bound
 
 abbrev pub claim_wants : Claim → WordAccess
-claim_wants claim = claim_wants_at claim.kind claim.sweep claim.stage
+claim_wants claim = claim_wants_at claim.sweep.tops claim.kind claim.sweep claim.stage
 
 pub record ClaimTurn : Type 0 where
   pub claim : Claim
@@ -187,7 +188,7 @@ abbrev pub claim_ends : Claim → ClaimEnd → ClaimTurn
 claim_ends claim end = record { claim = claim; ended = Some end }
 
 abbrev pub sweep_started : Claim → ClaimTurn
-sweep_started claim = claim_goes (record claim { sweep = sweep_begun claim.sweep.scheme }) claims.Sweeps
+sweep_started claim = claim_goes (record claim { sweep = sweep_begun claim.sweep.tops claim.sweep.scheme }) claims.Sweeps
 
 -- a caller that announces withdraws its own announcement before the first of its sweeps
 abbrev pub sweep_follows : Scheme → ℕ → Claim → ClaimTurn
@@ -204,22 +205,22 @@ abbrev pub look_begun : Claim → HeadParts → ClaimTurn
 look_begun claim head = if head.top == 0 then look_ended claim else claim_goes claim (claims.ReadLink head.phase head.top)
 
 -- a slot is taken from the chain exactly if the exchange found what was expected
-abbrev pub takes_at : ClaimStage → ℕ → Bool
-takes_at claims.ReadHead word = false
-takes_at (claims.ReadLink q t) word = false
-takes_at (claims.Take q t next) word = word == head_word q t
-takes_at (claims.StoreUsed q t) word = false
-takes_at (claims.Withdraw own) word = false
-takes_at claims.Sweeps word = false
+abbrev pub takes_at : ℕ → ClaimStage → ℕ → Bool
+takes_at tops claims.ReadHead word = false
+takes_at tops (claims.ReadLink q t) word = false
+takes_at tops (claims.Take q t next) word = word == head_word tops q t
+takes_at tops (claims.StoreUsed q t) word = false
+takes_at tops (claims.Withdraw own) word = false
+takes_at tops claims.Sweeps word = false
 
 -- whether the claim takes a slot if its wanted access found a word: a claim is counted then, although it ends only with
 -- the store after it
-abbrev pub claim_takes : Claim → ℕ → Bool
-claim_takes claim word = takes_at claim.stage word
+abbrev pub claim_takes : Sizes → Claim → ℕ → Bool
+claim_takes n claim word = takes_at n.tops claim.stage word
 
 -- a look whose exchange failed begins again, with the head loaded once more
-abbrev pub look_took : Claim → ℕ → ℕ → ℕ → ClaimTurn
-look_took claim q t word = if word == head_word q t then claim_goes claim (claims.StoreUsed q t) else claim_goes claim claims.ReadHead
+abbrev pub look_took : Sizes → Claim → ℕ → ℕ → ℕ → ClaimTurn
+look_took n claim q t word = if word == head_word n.tops q t then claim_goes claim (claims.StoreUsed q t) else claim_goes claim claims.ReadHead
 
 -- after a sweep comes a look; a sweep that finds the last phase ends the claim
 abbrev pub sweep_ended : Claim → Sweep → Option SweepEnd → ClaimTurn
@@ -231,9 +232,9 @@ abbrev pub claim_sweeps : Claim → SweepTurn → ClaimTurn
 claim_sweeps claim turn = sweep_ended claim turn.sweep turn.ended
 
 abbrev pub claim_accepts_at : Sizes → ℕ → Claim → ℕ → ClaimStage → ClaimTurn
-claim_accepts_at n last claim word claims.ReadHead = look_begun claim (head_parts word)
+claim_accepts_at n last claim word claims.ReadHead = look_begun claim (head_parts n.tops word)
 claim_accepts_at n last claim word (claims.ReadLink q t) = claim_goes claim (claims.Take q t word)
-claim_accepts_at n last claim word (claims.Take q t next) = look_took claim q t word
+claim_accepts_at n last claim word (claims.Take q t next) = look_took n claim q t word
 claim_accepts_at n last claim word (claims.StoreUsed q t) = claim_ends claim (ends.Claimed t)
 claim_accepts_at n last claim word (claims.Withdraw own) = sweep_started claim
 claim_accepts_at n last claim word claims.Sweeps = claim_sweeps claim (sweep_accepts n last claim.sweep word)

@@ -84,9 +84,12 @@ TakesFitting (claims.Withdraw own) = Unit {0}
 TakesFitting claims.Sweeps = Unit {0}
 
 -- a retirement stores a phase that fits a status
+abbrev pub FitsStatus : ℕ → Type 0
+FitsStatus p = 4 * p + 4 ≤ 2 ^ 64
+
 abbrev pub StoresFitting : RetireStage → Type 0
 StoresFitting retires.ReadPhase = Unit {0}
-StoresFitting (retires.StoreStatus p) = p ≤ 2 ^ 50
+StoresFitting (retires.StoreStatus p) = FitsStatus p
 
 -- ---- the caller, register, slots and kind at which a routine stands are in the row
 
@@ -122,7 +125,7 @@ IsStatus last word = IsSomeAnd (status_parts word) (λ (parts : StatusParts). pa
 
 -- a head with a phase up to one, and a slot on top or none
 abbrev pub IsHead : Sizes → ℕ → ℕ → Type 0
-IsHead n last word = ((head_parts word).phase ≤ last) × ((head_parts word).top ≤ n.slots)
+IsHead n last word = ((head_parts n.tops word).phase ≤ last) × ((head_parts n.tops word).top ≤ n.slots)
 
 -- a store may be told any word
 abbrev pub SweepTold : Sizes → ℕ → SweepStage → ℕ → Type 0
@@ -144,7 +147,7 @@ ClaimTold n last sweep (claims.StoreUsed q t) word = Unit {0}
 ClaimTold n last sweep (claims.Withdraw own) word = Unit {0}
 ClaimTold n last sweep claims.Sweeps word = SweepTold n last sweep.stage word
 
--- the load is told a phase, and the store any word
+-- the load is told a phase that fits a status, and the store any word
 abbrev pub RetireTold : RetireStage → ℕ → Type 0
-RetireTold retires.ReadPhase word = word ≤ 2 ^ 50
+RetireTold retires.ReadPhase word = FitsStatus word
 RetireTold (retires.StoreStatus p) word = Unit {0}

@@ -3,6 +3,7 @@
 ghost use Rattle.std.specs.Prelude.{◌≡◌, ◌≤◌, ◌<◌, ◌^◌, length, None};
 ghost use Rattle.oa_words.specs.Packed.{head_parts, head_word};
 ghost use Rattle.oa_words.specs.Words.{Head};
+ghost use Rattle.oa_words.specs.declared.limits.TheConstants.{TOPS};
 ghost use Rattle.phase_pools.specs.Accesses.{located, Exchanges, RaisesToPhase};
 ghost use Rattle.phase_pools.specs.Pools.{claim_begun, claim_wants, claim_takes, claim_accepts, look_begun, look_ended, look_took, sweep_started, sweep_follows, sweep_ended, finds_last, phases_end};
 ghost use Rattle.phase_pools.specs.Ranges.{ClaimInRange, ClaimTold, HasOwn, IsHead};
@@ -49,6 +50,7 @@ impl ClaimState {
         ensures same { result ≡ claim_begun shape.now kind Warned }
         ensures within { ClaimInRange shape.now result.sweep result.stage }
     {
+        shape.kept();
         ClaimState {
             kind,
             stage: ClaimStage::ReadHead,
@@ -64,6 +66,7 @@ impl ClaimState {
         ensures same { result ≡ claim_begun shape.now kind (Announced own) }
         ensures within { ClaimInRange shape.now result.sweep result.stage }
     {
+        shape.kept();
         ClaimState {
             kind,
             stage: ClaimStage::ReadHead,
@@ -88,7 +91,10 @@ impl ClaimState {
             ClaimStage::ReadLink(_, top) => Access::Load {
                 at: shape.link_at(top),
             },
-            ClaimStage::Take(q, top, next) => take(shape, self.kind, q, top, next),
+            ClaimStage::Take(q, top, next) => {
+                self.sweep.kept();
+                take(shape, self.kind, q, top, next)
+            }
             ClaimStage::StoreUsed(q, top) => Access::Store {
                 at: shape.status_at(top),
                 word: status_word(q, Kind::Used),
@@ -111,7 +117,7 @@ impl ClaimState {
     /// Whether the claim takes a slot if its access found this word. It is counted then, but ends only with the store after it.
     pub fn takes(&self, shape: &Shape, word: u64) -> bool
         requires { ClaimInRange shape.now self.now.sweep self.now.stage }
-        ensures { result ≡ claim_takes self.now word }
+        ensures { result ≡ claim_takes shape.now self.now word }
     {
         shape.kept();
         match self.stage {
@@ -129,6 +135,7 @@ impl ClaimState {
     pub fn end(&self, shape: &Shape, last_phase: u64, word: u64) -> Option<ClaimEnd>
         ensures { result ≡ (claim_accepts shape.now last_phase self.now word).ended }
     {
+        shape.kept();
         match self.stage {
             ClaimStage::ReadHead => self.look_end(word),
             ClaimStage::StoreUsed(_, top) => Some(ClaimEnd::Claimed(top)),
@@ -140,7 +147,7 @@ impl ClaimState {
     /// How it ends after a load of the head.
     #[tactic(auto, using(crate::proofs::Ending::look_end))]
     fn look_end(&self, word: u64) -> Option<ClaimEnd>
-        ensures { result ≡ (look_begun self.now (head_parts word)).ended }
+        ensures { result ≡ (look_begun self.now (head_parts TOPS word)).ended }
     {
         let (_, top) = head_parts(word);
         if top == 0 && self.sweeps == 2 {
@@ -222,7 +229,7 @@ impl ClaimState {
         requires last { last_phase ≤ 2 ^ 50 }
         requires own { HasOwn shape.now self.old.sweep.scheme }
         requires word { IsHead shape.now last_phase word }
-        ensures same { look_begun self.old (head_parts word) ≡ record { claim = self.new; ended = result } }
+        ensures same { look_begun self.old (head_parts shape.now.tops word) ≡ record { claim = self.new; ended = result } }
         ensures stays { ClaimInRange shape.now self.new.sweep self.new.stage }
     {
         shape.kept();
@@ -239,7 +246,7 @@ impl ClaimState {
         requires top { top ≤ shape.now.slots }
         requires phase { q ≤ 2 ^ 50 }
         requires few { self.old.sweeps ≤ 2 }
-        ensures same { look_took self.old q top word ≡ record { claim = self.new; ended = None } }
+        ensures same { look_took shape.now self.old q top word ≡ record { claim = self.new; ended = None } }
         ensures stays { ClaimInRange shape.now self.new.sweep self.new.stage }
     {
         shape.kept();
@@ -286,6 +293,7 @@ impl ClaimState {
         ensures same { sweep_started self.old ≡ record { claim = self.new; ended = None } }
         ensures stays { ClaimInRange shape.now self.new.sweep self.new.stage }
     {
+        self.sweep.kept();
         self.stage = ClaimStage::Sweeps;
         self.sweep = SweepState::begin_by(self.sweep.scheme());
     }
@@ -297,7 +305,7 @@ fn take(shape: &Shape, kind: u32, q: u64, top: u32, next: u32) -> Access
     requires phase { q ≤ 2 ^ 50 }
     requires top { top ≤ shape.now.slots }
     requires next { next ≤ shape.now.slots }
-    ensures same { result ≡ located shape.now (Exchanges (Head kind) (head_word q top) (head_word q next)) }
+    ensures same { result ≡ located shape.now (Exchanges (Head kind) (head_word TOPS q top) (head_word TOPS q next)) }
     ensures raises { RaisesToPhase result }
 {
     shape.kept();

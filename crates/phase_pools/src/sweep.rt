@@ -4,6 +4,7 @@
 ghost use Rattle.std.specs.Prelude.{◌≡◌, ◌≤◌, ◌<◌, ◌^◌, ◌+◌, ◌*◌, max, length, None};
 ghost use Rattle.oa_words.specs.Packed.{status_parts, head_word, head_parts};
 ghost use Rattle.oa_words.specs.Words.{Head};
+ghost use Rattle.oa_words.specs.declared.limits.TheConstants.{TOPS};
 ghost use Rattle.phase_pools.specs.Accesses.{located, Exchanges, IsPhase, RaisesToPhase};
 ghost use Rattle.phase_pools.specs.Pools.{sweep_begun, sweep_wants, sweep_accepts, finds_last, sweep_on, phase_read, phase_raised, warn_wanted, warn_next, warned_all, warned, low_after, hazard_read, hazard_next, status_read, freeing, made_ready, push_read, pushed};
 ghost use Rattle.phase_pools.specs.Ranges.{SweepInRange, SweepTold, StandsAtSlot, IsHead};
@@ -36,12 +37,13 @@ pub struct SweepState {
 
 impl Model for SweepState {
     ghost use Rattle.std.specs.Prelude.{length, ◌≤◌};
+    ghost use Rattle.oa_words.specs.declared.limits.TheConstants.{TOPS};
     ghost use Rattle.phase_pools.specs.Pools.{Sweep};
     ghost use Rattle.phase_pools.specs.Ranges.{GathersFew, HasPhase, StandsAtSlot};
 
     ghost Value = { Sweep };
 
-    ghost view = { λ s. record { scheme = s.scheme; stage = s.stage; bound = s.bound; low = s.low; gathered = s.gathered } };
+    ghost view = { λ s. record { scheme = s.scheme; tops = TOPS; stage = s.stage; bound = s.bound; low = s.low; gathered = s.gathered } };
 
     ghost invariant = { λ s. GathersFew s.stage (length s.gathered) × HasPhase s.stage s.bound × (s.low ≤ s.bound) × StandsAtSlot s.stage };
 }
@@ -117,9 +119,9 @@ fn hazard_next(shape: &Shape, caller: u32, register: u32) -> SweepStage
 }
 
 impl SweepState {
-    /// A sweep before its first access, with nothing gathered, which warns the callers.
+    /// A sweep of a document's row before its first access, with nothing gathered, which warns the callers.
     pub fn begin() -> SweepState
-        ensures { result ≡ sweep_begun Warned }
+        ensures { result ≡ sweep_begun TOPS Warned }
     {
         SweepState::begin_by(Scheme::Warned)
     }
@@ -136,7 +138,7 @@ impl SweepState {
 
     /// The same by a scheme.
     pub(crate) fn begin_by(scheme: Scheme) -> SweepState
-        ensures { result ≡ sweep_begun scheme }
+        ensures { result ≡ sweep_begun TOPS scheme }
     {
         SweepState {
             scheme,
@@ -145,6 +147,14 @@ impl SweepState {
             low: 0,
             gathered: Gathered::empty(),
         }
+    }
+
+    /// What every sweep keeps: its row is a document's. A law for those who hold one; the body reads a field, which makes the view known.
+    #[inline(always)]
+    pub(crate) fn kept(&self)
+        ensures { self.now.tops ≡ TOPS }
+    {
+        let _ = &self.stage;
     }
 
     /// The sweep's scheme.
@@ -362,7 +372,7 @@ impl SweepState {
         requires phase { IsPhase self.old.bound }
         requires last { last_phase ≤ 2 ^ 50 }
         requires word { IsHead shape.now last_phase word }
-        ensures same { push_read self.old slot (head_parts word) ≡ record { sweep = self.new; ended = None } }
+        ensures same { push_read self.old slot (head_parts shape.now.tops word) ≡ record { sweep = self.new; ended = None } }
         ensures stays { SweepInRange shape.now self.new.stage }
     {
         shape.kept();
@@ -398,7 +408,7 @@ fn push(shape: &Shape, kind: u32, slot: u32, q: u64, top: u32, bound: u64) -> Ac
     requires top { top ≤ shape.now.slots }
     requires phase { IsPhase bound }
     requires head { q ≤ 2 ^ 50 }
-    ensures same { result ≡ located shape.now (Exchanges (Head kind) (head_word q top) (head_word (max q bound) slot)) }
+    ensures same { result ≡ located shape.now (Exchanges (Head kind) (head_word TOPS q top) (head_word TOPS (max q bound) slot)) }
     ensures raises { RaisesToPhase result }
 {
     shape.kept();

@@ -20,32 +20,32 @@ warning_told : (n : Sizes) (last word s : ℕ) (scheme : Scheme) (c : ℕ) → c
 warning_told n last word s Warned c range told = told.phase (omega (arith, range))
 warning_told n last word s (Announced own) c range told = told.phase (omega (arith, range))
 
-sweep_told_at : (n : Sizes) (last word s : ℕ) (scheme : Scheme) (stage : SweepStage) → SweepInRange n stage → IsTold n last (address_in (located n (sweep_wants_at scheme stage s))) word → SweepTold n last stage word
-sweep_told_at n last word s scheme sweeps.ReadPhase range told = told.phase (omega arith)
-sweep_told_at n last word s scheme (sweeps.RaisePhase p) range told = told.phase (omega arith)
-sweep_told_at n last word s scheme (sweeps.Warn c) range told = warning_told n last word s scheme c range told
-sweep_told_at n last word s scheme (sweeps.ReadHazard c r) range told = let a = range.0 in let b = range.1 in told.hazard (omega (arith, a, b)) (omega (arith, a, b))
-sweep_told_at n last word s scheme (sweeps.ReadStatus j) range told = told.status (omega arith) (omega (arith, range))
-sweep_told_at n last word s scheme (sweeps.MakeReady j q) range told = told.status (omega arith) (omega (arith, range))
-sweep_told_at n last word s scheme (sweeps.PushHead k j) range told = let lt = range.0 in told.head (omega arith) (omega (arith, lt))
-sweep_told_at n last word s scheme (sweeps.PushLink j q t) range told = tt
-sweep_told_at n last word s scheme (sweeps.PushTop k j q t) range told = let lt = range.0 in told.head (omega arith) (omega (arith, lt))
+sweep_told_at : (n : Sizes) (last tops word s : ℕ) (scheme : Scheme) (stage : SweepStage) → SweepInRange n stage → IsTold n last (address_in (located n (sweep_wants_at tops scheme stage s))) word → SweepTold n last stage word
+sweep_told_at n last tops word s scheme sweeps.ReadPhase range told = told.phase (omega arith)
+sweep_told_at n last tops word s scheme (sweeps.RaisePhase p) range told = told.phase (omega arith)
+sweep_told_at n last tops word s scheme (sweeps.Warn c) range told = warning_told n last word s scheme c range told
+sweep_told_at n last tops word s scheme (sweeps.ReadHazard c r) range told = let a = range.0 in let b = range.1 in told.hazard (omega (arith, a, b)) (omega (arith, a, b))
+sweep_told_at n last tops word s scheme (sweeps.ReadStatus j) range told = told.status (omega arith) (omega (arith, range))
+sweep_told_at n last tops word s scheme (sweeps.MakeReady j q) range told = told.status (omega arith) (omega (arith, range))
+sweep_told_at n last tops word s scheme (sweeps.PushHead k j) range told = let lt = range.0 in told.head (omega arith) (omega (arith, lt))
+sweep_told_at n last tops word s scheme (sweeps.PushLink j q t) range told = tt
+sweep_told_at n last tops word s scheme (sweeps.PushTop k j q t) range told = let lt = range.0 in told.head (omega arith) (omega (arith, lt))
 
-claim_told_at : (n : Sizes) (last word kind : ℕ) (sweep : Sweep) (stage : ClaimStage) → kind < length n.kinds → ClaimInRange n sweep stage → IsTold n last (address_in (located n (claim_wants_at kind sweep stage))) word
+claim_told_at : (n : Sizes) (last tops word kind : ℕ) (sweep : Sweep) (stage : ClaimStage) → kind < length n.kinds → ClaimInRange n sweep stage → IsTold n last (address_in (located n (claim_wants_at tops kind sweep stage))) word
     → ClaimTold n last sweep stage word
-claim_told_at n last word kind sweep claims.ReadHead known range told = told.head (omega arith) (omega (arith, known))
-claim_told_at n last word kind sweep (claims.ReadLink q t) known range told = told.link (omega arith)
-claim_told_at n last word kind sweep (claims.Take q t next) known range told = told.head (omega arith) (omega (arith, known))
-claim_told_at n last word kind sweep (claims.StoreUsed q t) known range told = tt
-claim_told_at n last word kind sweep (claims.Withdraw own) known range told = tt
-claim_told_at n last word kind sweep claims.Sweeps known range told = sweep_told_at n last word sweep.bound sweep.scheme sweep.stage range told
+claim_told_at n last tops word kind sweep claims.ReadHead known range told = told.head (omega arith) (omega (arith, known))
+claim_told_at n last tops word kind sweep (claims.ReadLink q t) known range told = told.link (omega arith)
+claim_told_at n last tops word kind sweep (claims.Take q t next) known range told = told.head (omega arith) (omega (arith, known))
+claim_told_at n last tops word kind sweep (claims.StoreUsed q t) known range told = tt
+claim_told_at n last tops word kind sweep (claims.Withdraw own) known range told = tt
+claim_told_at n last tops word kind sweep claims.Sweeps known range told = sweep_told_at n last tops word sweep.bound sweep.scheme sweep.stage range told
 
 pub sweep_told : (n : Sizes) (last word : ℕ) (sweep : Sweep) (access : Access) → SweepInRange n sweep.stage → access ≡ located n (sweep_wants sweep) → IsTold n last (address_in access) word → SweepTold n last sweep.stage word
-sweep_told n last word sweep access range is told = sweep_told_at n last word sweep.bound sweep.scheme sweep.stage range (subst (λ (a : Access). IsTold n last (address_in a) word) is told)
+sweep_told n last word sweep access range is told = sweep_told_at n last sweep.tops word sweep.bound sweep.scheme sweep.stage range (subst (λ (a : Access). IsTold n last (address_in a) word) is told)
 
 pub claim_told : (n : Sizes) (last word : ℕ) (claim : Claim) (access : Access) → StandsInRow n claim → access ≡ located n (claim_wants claim) → IsTold n last (address_in access) word → ClaimTold n last claim.sweep claim.stage word
 claim_told n last word claim access stands is told =
-    claim_told_at n last word claim.kind claim.sweep claim.stage stands.0 stands.2 (subst (λ (a : Access). IsTold n last (address_in a) word) is told)
+    claim_told_at n last claim.sweep.tops word claim.kind claim.sweep claim.stage stands.0 stands.2 (subst (λ (a : Access). IsTold n last (address_in a) word) is told)
 
 -- a claim that goes on is of the same kind and caller
 pub claim_stands : (n : Sizes) (last word : ℕ) (claim later : Claim) (ended : Option ClaimEnd) → StandsInRow n claim → claim_accepts n last claim word ≡ record { claim = later; ended = ended } → ClaimInRange n later.sweep later.stage → StandsInRow n later

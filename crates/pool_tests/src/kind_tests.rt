@@ -12,14 +12,14 @@ use std::process::Abort;
 /// The shape of a row of 1 caller, 1 field and 1 cell. The first kind has slots 1 and 2, and the second has slot 3; what stands
 /// past the kinds isn't looked at.
 fn mixed(rt: &impl Abort) -> Shape
-    ensures { result ≡ record { callers = 1; slots = 3; fields = 1; cells = 1; kinds = 2 ∷ 1 ∷ [] } }
+    ensures { result ≡ record { callers = 1; slots = 3; fields = 1; cells = 1; kinds = 2 ∷ 1 ∷ []; tops = 8192 } }
 {
     Shape::of_kinds(1, [2, 1, 0, 5000], 2, 1, 1).expect(rt, "the numbers are in range")
 }
 
 /// The shape of a row of 1 caller, 2 fields and 3 cells, and of kinds with 1, 3, 2 and 4 slots.
 fn four(rt: &impl Abort) -> Shape
-    ensures { result ≡ record { callers = 1; slots = 10; fields = 2; cells = 3; kinds = 1 ∷ 3 ∷ 2 ∷ 4 ∷ [] } }
+    ensures { result ≡ record { callers = 1; slots = 10; fields = 2; cells = 3; kinds = 1 ∷ 3 ∷ 2 ∷ 4 ∷ []; tops = 8192 } }
 {
     Shape::of_kinds(1, [1, 3, 2, 4], 4, 2, 3).expect(rt, "the numbers are in range")
 }

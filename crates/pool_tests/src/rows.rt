@@ -8,7 +8,7 @@ use std::process::Abort;
 
 /// The shape of a row of 1 caller, 3 slots, 2 fields and 1 cell.
 pub(crate) fn small(rt: &impl Abort) -> Shape
-    ensures { result ≡ record { callers = 1; slots = 3; fields = 2; cells = 1; kinds = 3 ∷ [] } }
+    ensures { result ≡ record { callers = 1; slots = 3; fields = 2; cells = 1; kinds = 3 ∷ []; tops = 8192 } }
 {
     Shape::new(1, 3, 2, 1).expect(rt, "the numbers are in range")
 }

@@ -54,6 +54,7 @@ fn is_status(last_phase: u64, word: u64) -> bool
 fn is_head(shape: &Shape, last_phase: u64, word: u64) -> bool
     ensures { IsTrue result → IsHead shape.now last_phase word }
 {
+    shape.kept();
     let slots = shape.slots();
     let (phase, top) = head_parts(word);
     phase <= last_phase && top <= slots as u64

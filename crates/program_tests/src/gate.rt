@@ -153,3 +153,51 @@ fn calls_come_after_the_gate(rt: HostRuntime) -> Result<(), Fail> {
         b"0 0 insert 5: 0\n1 0 contains 9: 0\n1 1 insert 5: 1\n1 2 contains 9: 0\nreplies 4 short 0 phase 1 claims 1 restarts 0\n",
     )
 }
+
+/// A gate that counts all passes and those of each caller's first call, and remembers the index of the last pass.
+#[derive(Drop)]
+struct Counting {
+    passes: AtomicU64,
+    firsts: AtomicU64,
+    last: AtomicU64,
+}
+
+impl Counting {
+    fn new() -> Counting {
+        Counting {
+            passes: AtomicU64::new(0),
+            firsts: AtomicU64::new(0),
+            last: AtomicU64::new(0),
+        }
+    }
+}
+
+impl Gate for Counting {
+    fn pass(&self, _caller: u32, index: u32) {
+        self.passes.fetch_add(1, Ordering::SeqCst);
+        if index == 0 {
+            self.firsts.fetch_add(1, Ordering::SeqCst);
+        }
+        self.last.store(index as u64, Ordering::SeqCst);
+    }
+}
+
+/// The first part has at most 2,000 calls a caller, and the second one all 2,001, of caller 0 alone. So each part was run once, the second
+/// one last.
+#[test]
+fn a_workload_passes_the_gate_in_both_parts(rt: HostRuntime) -> Result<(), Fail> {
+    let gate = Counting::new();
+    says(
+        &rt,
+        rt.alloc(),
+        &["workload", "2001", "2"],
+        b"",
+        &gate,
+        Status::Done,
+        b"part 1 callers 2 operations 4000 ones 2950 zeros 1050 short 0\npart 2 operations 2001 ones 1476 zeros 525 short 0 phase 70 claims 489 restarts 69\n",
+    )?;
+    assert!(rt; gate.passes.load(Ordering::SeqCst) == 6001);
+    assert!(rt; gate.firsts.load(Ordering::SeqCst) == 3);
+    assert!(rt; gate.last.load(Ordering::SeqCst) == 2000);
+    Ok(())
+}

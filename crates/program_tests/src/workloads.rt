@@ -56,6 +56,8 @@ fn an_ordered_set_replies_as_often(rt: HostRuntime) -> Result<(), Fail> {
     assert!(rt; ones(alloc, 0, 8)? == 5);
     assert!(rt; ones_of_all(alloc, 4, 100)? == 288);
     assert!(rt; ones(alloc, 0, 100)? == 72);
+    assert!(rt; ones_of_all(alloc, 2, 2000)? == 2950);
+    assert!(rt; ones(alloc, 0, 2001)? == 1476);
     assert!(rt; ones_of_all(alloc, 8, 2000)? == 11806);
     assert!(rt; ones(alloc, 0, 100_000)? == 73955);
     Ok(())

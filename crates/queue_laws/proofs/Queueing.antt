@@ -21,11 +21,12 @@ use Rattle.source_histories.specs.Answers.{gives_up, reply_of, AnswersAs}
 use Rattle.source_histories.proofs.Lists.{last_push}
 use Rattle.source_histories.proofs.Dealing.{Times, ticked, Phase, Resting, Working, Landed, Move, Begins, Stays, Renews, Ends, moved, said_by, phase_runs, Open, Deal, begins, works, starts_over, waits, lands, ends, settles, pays, quits}
 use Rattle.source_histories.proofs.Recording.{Dealt, books_answer}
+use Rattle.source_histories.proofs.Keeping.{deeds_stand}
 use Rattle.queue_source.specs.Places.{Hand, first_hand, Place, Idle, EnqTail, EnqNext, EnqSwing, EnqNew, EnqPut, EnqLink, HelpTail, HelpNext, HelpSwing, HelpReply, DeqHead, DeqTail, DeqNext, DeqValue, DeqTake, DeqSwing, DeqNone, Load, shown, memory_of, start_of, begins_at}
 use Rattle.queue_source.specs.Relation.{Shared, store_of, Fine, Stands, Goes, content, Class, Rests, Enqueues, Helps, Dequeues, FoundNone, class_of, is_walk, SameCall, Way, walks, finds_none, links, links_not, takes, takes_not, answers, answers_none, stops, enqueues, dequeues, renews, Keeps}
 use Rattle.queue_source.proofs.Stable.{stable}
 use Rattle.queue_source.proofs.Events.{keeps_open, first_shared, first_is, first_fine, first_stands, first_content}
-use Rattle.queue_laws.specs.Queues.{queue_step, queue_rules, queue_moment, enqueued, QueueAnswers}
+use Rattle.queue_laws.specs.Queues.{queue_step, queue_rules, queue_moment, enqueued, QueueAnswers, QueueDeedsStand}
 
 -- a call that runs, without a deed
 abbrev pub IsWorking : Times (List ℕ) → Phase → ℕ → ℕ → Started → Type 0
@@ -537,3 +538,7 @@ pub queue_answers : QueueAnswers
 queue_answers callers events state run =
     subst (λ xs. AnswersAs (List ℕ) queue_step xs state (book_of queue_text queue_rules callers events)) first_content
     (books_answer queue_text queue_rules (List ℕ) Shared queue_step (λ x. memory_of (store_of x)) Fine content Knows Goes stable_knows deals knows_runs first_shared first_is first_fine first_knows callers events state run)
+
+-- what is told of a running call stands
+pub queue_deeds_stand : QueueDeedsStand
+queue_deeds_stand = deeds_stand queue_text queue_rules (List ℕ) Shared queue_step (λ x. memory_of (store_of x)) Fine content Knows Goes stable_knows deals first_shared first_is first_fine first_knows

@@ -11,7 +11,7 @@ use Rattle.source_histories.specs.declared.deed.Deed.{Deed}
 use Rattle.source_histories.specs.Deeds.{deeds_in, AreLegal}
 use Rattle.source_histories.specs.declared.deed.Notes.{Notes}
 use Rattle.source_histories.specs.Books.{Rules, book_of}
-use Rattle.source_histories.specs.Answers.{AnswersAs}
+use Rattle.source_histories.specs.Answers.{AnswersAs, DeedsStand}
 
 -- what the queue holds after an enqueue, which adds at the back and replies its argument
 abbrev pub enqueued : Bool → ℕ → List ℕ → Option (List ℕ)
@@ -77,6 +77,10 @@ queue_deeds callers events = deeds_in (book_of queue_text queue_rules callers ev
 abbrev pub QueueAnswers : Type 0
 QueueAnswers = (callers : ℕ) (events : List SourceEvent) (state : SourceMachine) → IsSourceRun queue_text callers events state
     → AnswersAs (List ℕ) queue_step [] state (book_of queue_text queue_rules callers events)
+
+-- what is told of a running call stands
+abbrev pub QueueDeedsStand : Type 0
+QueueDeedsStand = DeedsStand queue_text queue_rules
 
 -- the history of a run, which answers as a queue; or the first event that isn't enabled; memory may run out
 abbrev pub IsQueueHistory : ℕ → List SourceEvent → Result (List Deed) RunError → Type 0

@@ -17,7 +17,7 @@ pub type QueueDeed = Deed;
 /// The deeds of the queue's calls, in the order of their moments.
 pub type QueueHistory = Listed<QueueDeed>;
 
-/// The history of a run of the queue by 1 to 8 callers: one deed for each call that ended with a number or with nothing,
+/// The history of a run of the queue by at least one caller: one deed for each call that ended with a number or with nothing,
 /// and for each that runs and whose exchange of the list succeeded.
 ///
 /// # Errors
@@ -28,7 +28,6 @@ pub fn queue_history(
     events: &[SourceEvent],
 ) -> Result<QueueHistory, RunError>
     requires some { 1 ≤ callers }
-    requires few { callers ≤ 8 }
     ensures history { IsQueueHistory callers events.now result }
     ensures legal { IfOk result (λ deeds. QueueLegal deeds) }
 {

@@ -223,7 +223,7 @@ abbrev reached : List SourceEvent → SourceMachine
 reached more = unwrap_or (source_run two more (source_start two 1)) (source_start two 1)
 
 is_run : (more : List SourceEvent) → is_some (source_run two more (source_start two 1)) ≡ true → IsSourceRun two 1 more (reached more)
-is_run more enabled = record { some = omega arith; few = omega arith; runs = some_run (source_run two more (source_start two 1)) (source_start two 1) enabled }
+is_run more enabled = record { some = omega arith; runs = some_run (source_run two more (source_start two 1)) (source_start two 1) enabled }
 
 -- it begins
 begun : Follows walk home (Unit {0}) [] (first_spot start) start false (begins_at y false start call)

@@ -242,7 +242,7 @@ some_run None other is = absurd (let no : false ≡ true = is in cc)
 some_run (Some state) other is = refl
 
 is_run : (events : List SourceEvent) → is_some (source_run two events (source_start two 1)) ≡ true → IsSourceRun two 1 events (reached events)
-is_run events enabled = record { some = omega arith; few = omega arith; runs = some_run (source_run two events (source_start two 1)) (source_start two 1) enabled }
+is_run events enabled = record { some = omega arith; runs = some_run (source_run two events (source_start two 1)) (source_start two 1) enabled }
 
 abbrev begins : List SourceEvent
 begins = Begin 0 0 (0 ∷ 0 ∷ 0 ∷ 0 ∷ []) ∷ Access 0 0 ∷ Access 0 7 ∷ Access 0 0 ∷ []

@@ -4,3 +4,4 @@ mod Shaped
 mod Shortness
 mod Spelling
 mod Telling
+mod WorkedLimits

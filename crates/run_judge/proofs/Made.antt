@@ -7,6 +7,7 @@ use Rattle.norm_lang.specs.declared.text.Text.{Text}
 use Rattle.source_machine.specs.declared.event.SourceEvent.{SourceEvent}
 use Rattle.norm_lang.specs.declared.reply.SourceReply.{SourceReply}
 use Rattle.source_machine.specs.Proper.{IsProper}
+use Rattle.source_machine.proofs.Reached.{fewer_are_proper}
 use Rattle.barrier_check.specs.Paired.{IsSound}
 use Rattle.caller_parts.specs.Settings.{IsSetting}
 use Rattle.core_ground.proofs.Runnable.{runnable}
@@ -33,6 +34,7 @@ use Rattle.certificate_laws.specs.Certified.{replies_in, RunsAreAccepted}
 use Rattle.run_judge.specs.Judged.{verdict_of}
 use Rattle.run_judge.specs.Made.{certificate_limit, certificate_replay, plan_logged, certificate_given, making_fault_of, IsMakingFaultOf, IsCertificateOf}
 use Rattle.run_judge.proofs.Lengthening.{replay_lasts}
+use Rattle.run_judge.proofs.Shaped.{few_scripts}
 use Rattle.run_judge.proofs.Spelling.{spelled}
 use Rattle.run_judge.proofs.Telling.{begins_call, image_begins, events_so}
 
@@ -71,7 +73,7 @@ module _ (document : Document) (run : LoggedRun) (runs : IsRunnable document) (r
   accepted proper =
       ap (λ (lists : List (List SourceReply)). verdict_on document.text document.scripts run.events lists) tells.replies
       ∙ (ap (λ (l : List SourceEvent). verdict_on document.text document.scripts l (replies_in tells.replaying.state)) tells.events
-      ∙ accepts proper document.scripts (calls_of document) document.fuel tells.replaying.events tells.replaying.state ready.fuel refl (spelled document runs) complete)
+      ∙ accepts (fewer_are_proper document.text (length document.scripts) 8 (few_scripts document runs) proper) document.scripts (calls_of document) document.fuel tells.replaying.events tells.replaying.state ready.fuel refl (spelled document runs) complete)
 
   told : (bytes : List ℕ) → IsDocument bytes document → IsTold (certificate_with document run)
   told bytes is =

@@ -35,4 +35,4 @@ pub means : (certificate : Certificate) (verdict : Verdict) → IsRunnable certi
     → verdict ≡ verdict_of certificate → IsMeant certificate verdict
 means certificate verdict is same e =
     (verdicts_are_right certificate.document.text certificate.document.scripts certificate.events certificate.replies verdict
-    (some_scripts certificate.document is) (few_scripts certificate.document is) same).0 (sym e)
+    (some_scripts certificate.document is) same).0 (sym e)

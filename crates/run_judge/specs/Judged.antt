@@ -1,6 +1,5 @@
 -- What is found of a certificate.
 use Rattle.std.specs.Prelude.{◌≡◌, Result, Ok, Err}
-use Rattle.norm_lang.specs.declared.text.Text.{Text}
 use Rattle.documents.specs.declared.document.Document.{Document}
 use Rattle.script_plans.specs.declared.fault.RunFault.{RunFault}
 use Rattle.script_plans.specs.Plans.{IsFaultOf, IsRunnable}
@@ -8,11 +7,6 @@ use Rattle.certificates.specs.declared.certificate.Certificate.{Certificate}
 use Rattle.event_judge.specs.declared.verdict.Verdict.{Verdict}
 use Rattle.event_judge.specs.Judging.{verdict_on}
 use Rattle.event_judge.specs.JudgingLaws.{IsSo}
-
--- the text of a document that can be run, or why it can't
-abbrev pub IsReadied : Document → Result Text RunFault → Type 0
-IsReadied document (Ok text) = (text ≡ document.text) × IsRunnable document
-IsReadied document (Err fault) = IsFaultOf document fault
 
 -- what is found of a certificate's events and replies, by its document's text and scripts
 abbrev pub verdict_of : Certificate → Verdict

@@ -2,25 +2,12 @@
 
 ghost use Rattle.std.specs.Prelude.{◌≡◌, length, IfOk};
 ghost use Rattle.documents.specs.DocumentLimits.{IsWithinDocumentLimits};
-ghost use Rattle.run_judge.specs.Judged.{IsReadied, IsCertificateJudged, IsMeant};
+ghost use Rattle.run_judge.specs.Judged.{IsCertificateJudged, IsMeant};
 
 use certificates::Certificate;
-use documents::Document;
 use event_judge::{Verdict, judge_events};
-use norm_check::{Normal, check};
-use script_plans::{RunFault, plan_of};
+use script_plans::{RunFault, readied};
 use std::alloc::Global;
-
-/// The text of a document that can be run.
-fn readied(alloc: Global, document: &Document) -> Result<Normal, RunFault>
-    requires { IsWithinDocumentLimits document.now }
-    ensures { IsReadied document.now result }
-{
-    let plan = plan_of(alloc, document)?;
-    drop(plan);
-    let normal = check(alloc, document.text.copy(alloc)?)?;
-    Ok(normal)
-}
 
 /// What is found of a certificate: `Accepted` exactly if its events are a source run of the text that begins the calls of the
 /// scripts in order and agrees with the replies; else 1 if an event isn't enabled, 2 if one begins another call than the next of its

@@ -11,7 +11,7 @@ use crate::limits::MOST_STEPS;
 use certificate_laws::laws::images_are_accepted;
 use certificates::Certificate;
 use documents::Document;
-use norm_check::{Normal, check};
+use norm_check::Normal;
 use replay_logs::{LogError, LoggedRun, log_replay};
 use script_plans::{Plan, RunFault, plan_of};
 use std::alloc::{AllocError, Global};
@@ -102,20 +102,17 @@ fn make_from(
     }
 }
 
-/// The certificate of a document whose plan is made; its text is judged again for the source machine.
+/// The same with the text in normal form of which the plan's target was compiled.
 fn make_planned(alloc: Global, document: &Document, plan: &Plan) -> Result<Certificate, RunFault>
-    requires within { IsWithinDocumentLimits document.now }
     requires planned { IsPlanned document.now (Ok plan.now) }
     requires ready { IsReady plan.now }
     ensures { IsMade document.now result }
 {
-    let normal = check(alloc, document.text.copy(alloc)?)?;
-    make_from(alloc, document, plan, &normal)
+    make_from(alloc, document, plan, plan.barred.normal())
 }
 
 /// The certificate of a document by its plan, which is given up.
 fn make_by(alloc: Global, document: &Document, plan: Plan) -> Result<Certificate, RunFault>
-    requires within { IsWithinDocumentLimits document.now }
     requires planned { IsPlanned document.now (Ok plan) }
     requires ready { IsReady plan }
     ensures { IsMade document.now result }

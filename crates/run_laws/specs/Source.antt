@@ -2,7 +2,7 @@
 use Rattle.std.specs.Prelude.{◌≡◌, ℕ, ◌≤◌, List}
 use Rattle.norm_lang.specs.declared.text.Text.{Text}
 use Rattle.target_code.specs.declared.target.Target.{Target}
-use Rattle.source_machine.specs.Proper.{IsProper}
+use Rattle.source_machine.specs.Proper.{IsProperFor}
 use Rattle.caller_parts.specs.declared.call.Call.{Call}
 use Rattle.caller_parts.specs.Settings.{Setting}
 use Rattle.core_runs.specs.Machine.{CoreState, CoreEvent}
@@ -28,7 +28,7 @@ pub record FollowsSource (target : Target) (text : Text) (setting : Setting) (sc
   pub warned : AtEachState target setting events (StaleLoadsAreWarned target text setting)
   pub lone : setting.sizes.callers ≡ 1 → AtEachState target setting events (LoneClaim target text setting)
 
--- each complete run of scripts with fuel for at least one step does, if the text is proper
+-- each complete run of scripts with fuel for at least one step does, if the text is proper for the setting's callers
 abbrev pub RunsFollowSource : Target → Text → Setting → Type 0
-RunsFollowSource target text setting = IsProper text → (scripts : List (List Call)) (fuel : ℕ) (events : List CoreEvent) (state : CoreState) → 1 ≤ fuel
+RunsFollowSource target text setting = IsProperFor setting.sizes.callers text → (scripts : List (List Call)) (fuel : ℕ) (events : List CoreEvent) (state : CoreState) → 1 ≤ fuel
     → IsCompleteRun target setting scripts fuel events state → FollowsSource target text setting scripts events state

@@ -114,13 +114,12 @@ impl Log {
         let _ = self.events.as_slice().len();
     }
 
-    /// Before the first event: the callers, 1 to 8, are idle, and the names of so many initial nodes are used.
+    /// Before the first event: the callers, at least one, are idle, and the names of so many initial nodes are used.
     ///
     /// # Errors
     /// Memory ran out.
     pub fn new(alloc: Global, normal: &Normal, callers: u32, nodes: u32) -> Result<Log, AllocError>
         requires some { 1 ≤ callers }
-        requires few { callers ≤ 8 }
         ensures made { IfOk result (λ log. log ≡ recording_start normal.now callers nodes) }
         ensures runs { IfOk result (λ log. IsOfSourceRun normal.now log.machine) }
     {

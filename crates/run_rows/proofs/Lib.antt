@@ -3,3 +3,4 @@ pub mod Shadows
 pub mod Tops
 pub mod Names
 mod ScriptRuns
+pub mod Drawn

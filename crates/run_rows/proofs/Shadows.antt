@@ -83,7 +83,7 @@ calls : ℕ → ℕ → Call
 calls op argument = record { op = op; args = argument ∷ 0 ∷ 0 ∷ 0 ∷ [] }
 
 small : Setting
-small = record { reclamation = Optimistic; sizes = record { callers = 1; slots = 3; fields = 1; cells = 1; kinds = 3 ∷ [] }; first = 1; last = 9; nodes = 0 ∷ 0 ∷ 0 ∷ 0 ∷ [] }
+small = record { reclamation = Optimistic; sizes = record { callers = 1; slots = 3; fields = 1; cells = 1; kinds = 3 ∷ []; tops = 8192 }; first = 1; last = 9; nodes = 0 ∷ 0 ∷ 0 ∷ 0 ∷ [] }
 
 -- the wrap-up's restart isn't enabled: the source has replied with its exchange
 adds : (alone counter small (calls 0 5 ∷ [])).events ≡ Begin 0 0 (5 ∷ 0 ∷ 0 ∷ 0 ∷ []) ∷ Access 0 0 ∷ Access 0 0 ∷ []
@@ -137,7 +137,7 @@ listed = record {
 }
 
 three : Setting
-three = record { reclamation = Optimistic; sizes = record { callers = 1; slots = 3; fields = 2; cells = 1; kinds = 3 ∷ [] }; first = 1; last = 9; nodes = 0 ∷ 0 ∷ 0 ∷ 0 ∷ [] }
+three = record { reclamation = Optimistic; sizes = record { callers = 1; slots = 3; fields = 2; cells = 1; kinds = 3 ∷ []; tops = 8192 }; first = 1; last = 9; nodes = 0 ∷ 0 ∷ 0 ∷ 0 ∷ [] }
 
 put_in : ℕ → List SourceEvent
 put_in name = Begin 0 0 (7 ∷ 0 ∷ 0 ∷ 0 ∷ []) ∷ Access 0 name ∷ Access 0 0 ∷ Access 0 0 ∷ Access 0 0 ∷ Access 0 0 ∷ []

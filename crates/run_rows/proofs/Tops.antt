@@ -67,9 +67,9 @@ none_is_one : ◌≡◌ {A = ℕ} 0 1 → ⊥
 none_is_one e = cc
 
 -- if none is on top, none stands
-none_stands : (memory : Word → ℕ) (k j : ℕ) → top memory k ≡ 0 → ¬ InChain memory k j
-none_stands memory k j none there = of there.chain there.linked there.once where
-  of : (chain : List ℕ) → IsChain (links memory) (top memory k) chain → times j chain ≡ 1 → ⊥
+none_stands : (tops : ℕ) (memory : Word → ℕ) (k j : ℕ) → top tops memory k ≡ 0 → ¬ InChain tops memory k j
+none_stands tops memory k j none there = of there.chain there.linked there.once where
+  of : (chain : List ℕ) → IsChain (links memory) (top tops memory k) chain → times j chain ≡ 1 → ⊥
   of [] linked once = none_is_one once
   of (i ∷ below) linked once = linked.1 (sym linked.0 ∙ none)
 
@@ -99,11 +99,11 @@ taken_and_pushed = record {
   };
   there = refl;
   next = (steps 0 14 ++ (calls 1 (call_of 2 5) 5 ++ (calls 0 (call_of 1 5) 21 ++ calls 0 (call_of 0 6) 30)), refl);
-  takes = record { claim = record { kind = 0; stage = claims.Take 1 2 0; sweeps = 0; sweep = sweep_begun Warned }; next = 0; at = refl; of_kind = refl; stage = refl; found = refl };
+  takes = record { claim = record { kind = 0; stage = claims.Take 1 2 0; sweeps = 0; sweep = sweep_begun 8192 Warned }; next = 0; at = refl; of_kind = refl; stage = refl; found = refl };
   taken = refl;
-  gone = none_stands (memory_after 2 (five 8)) 0 2 refl;
+  gone = none_stands 8192 (memory_after 2 (five 8)) 0 2 refl;
   puts = record {
-    claim = record { kind = 0; stage = claims.Sweeps; sweeps = 0; sweep = record { scheme = Warned; stage = sweeps.PushTop 0 2 1 0; bound = 2; low = 2; gathered = [] } };
+    claim = record { kind = 0; stage = claims.Sweeps; sweeps = 0; sweep = record { scheme = Warned; tops = 8192; stage = sweeps.PushTop 0 2 1 0; bound = 2; low = 2; gathered = [] } };
     phase = 1;
     at = refl;
     in_sweep = refl;

@@ -3,3 +3,4 @@ pub mod GuardMarks
 pub mod ListTops
 pub mod ListNames
 pub mod ScriptRuns
+pub mod DrawnRows

@@ -35,20 +35,20 @@ pub record TakenAndPushed : Type 0 where
   pub exchange : wants list_target ((view (shared_setting 2) (state_after 2 (five 7))).who 0) ≡ Some (Exchanges (Head 0) 8194 8192)
   pub load : LastLoad list_target (shared_setting 2) (five 7) 0 0 8194
   pub found : memory_after 2 (five 7) (Head 0) ≡ 8194
-  pub top : (head_parts 8194).top ≡ 2
-  pub stands : InChain (memory_after 2 (five 7)) 0 2
+  pub top : (head_parts 8192 8194).top ≡ 2
+  pub stands : InChain 8192 (memory_after 2 (five 7)) 0 2
   -- and takes slot 2
   pub moment : Moment list_target (shared_setting 2) (inserting 30)
   pub there : moment.before ≡ five 7
   pub next : StepsNext list_target (shared_setting 2) (inserting 30) moment 0
   pub takes : TakesTop (shared_setting 2) moment.state 0 0 1 2
   pub taken : memory_after 2 (five 8) (Head 0) ≡ 8192
-  pub gone : ¬ InChain (memory_after 2 (five 8)) 0 2
+  pub gone : ¬ InChain 8192 (memory_after 2 (five 8)) 0 2
   -- its push finds the head as the take left it, and stamps it with phase 2
   pub puts : PutsOnTop (shared_setting 2) (state_after 2 (inserting 30)) 0 0 2 0
-  pub before : stamp (memory_after 2 (inserting 30)) 0 ≡ 1
-  pub after : stamp (memory_after 2 (inserting 31)) 0 ≡ 2
-  pub back : InChain (memory_after 2 (inserting 31)) 0 2
+  pub before : stamp 8192 (memory_after 2 (inserting 30)) 0 ≡ 1
+  pub after : stamp 8192 (memory_after 2 (inserting 31)) 0 ≡ 2
+  pub back : InChain 8192 (memory_after 2 (inserting 31)) 0 2
 
 -- ---- three slots: caller 0 has put in and taken out a node twice, so that slots 2 and 3 are retired and the chain is empty. In its third
 -- `insert 7` a sweep has pushed slot 3
@@ -78,5 +78,5 @@ pub record HeadAgain : Type 0 where
   pub moment : Moment list_target (shared_setting 3) (meanwhile 9)
   pub there : moment.before ≡ meanwhile 5
   pub since : NotAfter list_target (shared_setting 3) (meanwhile 9) load.at moment
-  pub stands : InChain (memory_after 3 (meanwhile 5)) 0 3
+  pub stands : InChain 8192 (memory_after 3 (meanwhile 5)) 0 3
   pub link : memory_after 3 (meanwhile 5) (Link 3) ≡ 0

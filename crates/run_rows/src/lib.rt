@@ -1,6 +1,7 @@
 //! Runs of the list by two callers, worked out by hand: their images, the tops of the chain, and the names of slots.
 #![tactic(auto)]
 
+ghost use Rattle.run_rows.specs.DrawnRows.{DrawnRows};
 ghost use Rattle.run_rows.specs.GuardMarks.{GuardMarks, CountedGuards, RepeatedGuards};
 ghost use Rattle.run_rows.specs.ListImages.{RecycledImage, GuardedImage};
 ghost use Rattle.run_rows.specs.ListNames.{RecycledNames, HeldNames, RecycledLoad};
@@ -42,4 +43,10 @@ pub fn stale_load()
 /// call still runs that may make more steps.
 pub fn script_runs()
     ensures { ScriptRuns }
+{}
+
+/// Names that are drawn where the source enables no `new`.
+#[tactic(auto, using(crate::proofs::Drawn::drawn_rows))]
+pub fn drawn_names()
+    ensures { DrawnRows }
 {}

@@ -46,7 +46,8 @@ pub fn reports_are_true()
 /// give cause to, and each caller has counted as many restarts as claims of its own that had made a sweep ended with a slot. If the
 /// document's text is proper, the run is one of the text on memory that is never recycled, by all callers at once, which begins the calls of
 /// the scripts in order, the base of each load is null or resident, and each line says what that run answers; if a `use` line names the
-/// text, that is so with nothing assumed, and the calls that the lines show have a legal order, as for `run`.
+/// text, that is so with nothing assumed, and the calls that the lines show have a legal order, as for `run`. Of a shipped text no line is
+/// `full` if the slots are enough, as for `run`.
 pub fn epoch_reports_are_true()
     ensures { EpochReportsAreTrue }
 {

@@ -1,5 +1,6 @@
 -- The plan of a document: what its callers run.
 use Rattle.std.specs.Prelude.{◌≡◌, ◌≤◌, true, List, map, length, Some, None, Result, Ok, Err, All}
+use Rattle.norm_lang.specs.declared.text.Text.{Text}
 use Rattle.norm_lang.specs.declared.text.Op.{Op}
 use Rattle.norm_lang.specs.NormalForm.{IsNormal}
 use Rattle.norm_lang.specs.Arguments.{are_words, padded}
@@ -55,6 +56,11 @@ IsFaultOf document (faults.Shape number at) = IsNormal document.text × (shape_f
 pub record IsRunnable (document : Document) : Type 0 where
   pub normal : IsNormal document.text
   pub shape : shape_fault document ≡ None
+
+-- the text of a document that can be run, or why it can't
+abbrev pub IsReadied : Document → Result Text RunFault → Type 0
+IsReadied document (Ok text) = (text ≡ document.text) × IsRunnable document
+IsReadied document (Err fault) = IsFaultOf document fault
 
 abbrev pub IsPlanned : Document → Result Plan RunFault → Type 0
 IsPlanned document (Ok plan) = (plan ≡ plan_for document) × IsRunnable document

@@ -5,6 +5,7 @@
 mod calls;
 mod epoch_plan;
 mod fault;
+mod judged;
 mod limits;
 mod plan;
 mod setting;
@@ -12,4 +13,5 @@ mod shape;
 
 pub use epoch_plan::{EpochPlan, epoch_plan_of};
 pub use fault::{RunFault, ShapeFault};
+pub use judged::readied;
 pub use plan::{CallList, CallLists, Plan, plan_of};

@@ -13,8 +13,7 @@ use crate::calls::calls_of;
 use crate::fault::{RunFault, ShapeFault};
 use crate::setting::setting_of;
 use crate::shape::scripts_fault;
-use barrier_check::laws::flawed_is_not_barred;
-use barrier_check::{Barred, VerifyError, verify};
+use barrier_check::Barred;
 use barrier_compiler::compile;
 use caller_parts::{Call, Reclamation, Setting};
 use documents::Document;
@@ -38,21 +37,13 @@ pub struct Plan {
     pub fuel: u64,
 }
 
-/// The code that a text compiles to. The verifier takes each that the compiler answers.
-fn barred_of(alloc: Global, normal: &Normal) -> Result<Barred, RunFault>
-    ensures code { IfOk result (λ barred. barred ≡ record { target = second_scheme normal.now; source = normal.now }) }
+/// The code that a text compiles to, with the text. What the compiler answers is barred, so it isn't verified.
+fn barred_of(alloc: Global, normal: Normal) -> Result<Barred, RunFault>
+    ensures code { IfOk result (λ barred. barred ≡ record { target = second_scheme normal; source = normal }) }
     ensures memory { IfErr result (λ fault. fault ≡ told.Memory) }
 {
-    let target = compile(alloc, normal)?;
-    match verify(alloc, target, normal) {
-        Ok(barred) => Ok(barred),
-        Err(VerifyError::Memory) => Err(RunFault::Memory),
-        Err(VerifyError::Flawed(_)) => {
-            // A law: what is barred has no flaw, and compiled code is barred.
-            flawed_is_not_barred();
-            unreachable!()
-        }
-    }
+    let target = compile(alloc, &normal)?;
+    Ok(Barred::compiled(target, normal))
 }
 
 /// The setting of a document under a scheme, or what is wrong with its shape.
@@ -70,9 +61,9 @@ pub(crate) fn shaped(by: Reclamation, document: &Document) -> Result<Setting, Sh
 
 /// The plan of a document whose text is in normal form.
 #[tactic(auto, using(crate::proofs::Sized::few_kinds, crate::proofs::Sized::few_nodes, crate::proofs::Sized::few_ops))]
-fn plan_of_normal(alloc: Global, document: &Document, normal: &Normal) -> Result<Plan, RunFault>
+fn plan_of_normal(alloc: Global, document: &Document, normal: Normal) -> Result<Plan, RunFault>
     requires within { IsWithinDocumentLimits document.now }
-    requires text { normal.now ≡ document.now.text }
+    requires text { normal ≡ document.now.text }
     requires normal { IsNormal document.now.text }
     ensures exact { IsPlanned document.now result }
     ensures words { IfOk result (λ plan. AllTakeWords plan.scripts) }
@@ -95,7 +86,7 @@ fn planned(alloc: Global, document: &Document) -> Result<Plan, RunFault>
     ensures words { IfOk result (λ plan. AllTakeWords plan.scripts) }
 {
     let normal = check(alloc, document.text.copy(alloc)?)?;
-    plan_of_normal(alloc, document, &normal)
+    plan_of_normal(alloc, document, normal)
 }
 
 /// The plan of a document.

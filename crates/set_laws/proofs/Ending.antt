@@ -20,6 +20,7 @@ use Rattle.source_histories.specs.Books.{accesses, no_notes, notes_at, noted_of,
 use Rattle.source_histories.specs.Answers.{gives_up, reply_of}
 use Rattle.source_histories.proofs.Dealing.{Times, ticked, Phase, Resting, Working, Landed, Begins, Stays, Renews, Ends, moved, said_by, phase_runs, Open, Deal, begins, starts_over, lands, ends, settles, pays, quits}
 use Rattle.source_histories.proofs.Recording.{Dealt, books_answer}
+use Rattle.source_histories.proofs.Keeping.{deeds_stand}
 use Rattle.set_source.specs.Places.{Kind, Insert, Remove, Contains, op_of, first_hand, Place, Idle, Pick, First, Second, Key, Snip, New, PutKey, PutNext, Link, Mark, Unlink, Missed, There, unmarked, Load, shown, start_of, with_hand, replying}
 use Rattle.set_source.specs.Relation.{to, Cell, Shared, memory_of, Fine, Onward, At, Stands, Goes}
 use Rattle.set_source.proofs.Changes.{with_cell, Private, with_snip, Marks, with_mark, Links, with_link}
@@ -31,7 +32,7 @@ use Rattle.set_source.proofs.Stable.{stable}
 use Rattle.set_source.proofs.Events.{keeps_open, first_shared, first_is, first_fine, first_stands, first_leads, first_inner}
 use Rattle.set_source.proofs.Ways.{Way, Keeps}
 use Rattle.set_source.proofs.Ways.{picks, first_none, first_some, second_marked, second_plain, key_less, key_same, key_none, key_more, snip_none, snip_more, snip_no, makes, puts_key, puts_next, links, links_not, marks, marks_not, unlinks, unlinks_not, misses, is_there, stops, starts, renews}
-use Rattle.set_laws.specs.Sets.{with_key, without_key, set_step, with_load, set_rules, SetAnswers}
+use Rattle.set_laws.specs.Sets.{with_key, without_key, set_step, with_load, set_rules, SetAnswers, SetDeedsStand}
 use Rattle.set_laws.proofs.Sorting.{keys, homes, Sorted, home_inner, home_sentinel, sorted_private, sorted_mark, sorted_snip, sorted_link, sentinels_apart, SetOf, live_plain, set_snip, set_private, set_mark, set_link}
 use Rattle.set_laws.proofs.Searching.{RightOf, Facts, within_inner, seen_key, onward_key, left_kept, right_kept, right_ahead, facts_kept, missing_now}
 use Rattle.source_machine.specs.declared.state.Memory.{Memory}
@@ -430,3 +431,9 @@ pub set_answers : SetAnswers
 set_answers b callers events state some run =
     (books_answer (set_text b) set_rules (List ℕ) World set_step (world_memory b) (FineWorld b) (λ w. w.set) (Knows b) WorldGoes (stable_knows b) (deals b some) (knows_runs b) (record { s = first_shared b; set = [] }) (first_is b)
     (record { fine = first_fine b; sorted = first_sorted b; holds = first_set b }) (first_knows b) callers events state run)
+
+-- what is told of a running call stands
+pub set_deeds_stand : SetDeedsStand
+set_deeds_stand b some =
+    deeds_stand (set_text b) set_rules (List ℕ) World set_step (world_memory b) (FineWorld b) (λ w. w.set) (Knows b) WorldGoes (stable_knows b) (deals b some) (record { s = first_shared b; set = [] }) (first_is b)
+    (record { fine = first_fine b; sorted = first_sorted b; holds = first_set b }) (first_knows b)

@@ -13,7 +13,7 @@ use Rattle.source_histories.specs.declared.deed.Deed.{Deed}
 use Rattle.source_histories.specs.Deeds.{deeds_in, AreLegal}
 use Rattle.source_histories.specs.declared.deed.Notes.{Notes}
 use Rattle.source_histories.specs.Books.{Rules, book_of}
-use Rattle.source_histories.specs.Answers.{AnswersAs}
+use Rattle.source_histories.specs.Answers.{AnswersAs, DeedsStand}
 
 -- a set is the list of its keys, in order; a key is put in its place, or taken out
 abbrev pub with_key : ℕ → List ℕ → List ℕ
@@ -128,6 +128,10 @@ set_deeds buckets callers events = deeds_in (book_of (set_text buckets) set_rule
 abbrev pub SetAnswers : Type 0
 SetAnswers = (buckets callers : ℕ) (events : List SourceEvent) (state : SourceMachine) → 0 < buckets → IsSourceRun (set_text buckets) callers events state
     → AnswersAs (List ℕ) set_step [] state (book_of (set_text buckets) set_rules callers events)
+
+-- what is told of a running call stands
+abbrev pub SetDeedsStand : Type 0
+SetDeedsStand = (buckets : ℕ) → 0 < buckets → DeedsStand (set_text buckets) set_rules
 
 -- the history of a run, which answers as a set; or the first event that isn't enabled; memory may run out
 abbrev pub IsSetHistory : ℕ → ℕ → List SourceEvent → Result (List Deed) RunError → Type 0

@@ -14,7 +14,7 @@ use std::alloc::Global;
 /// The deeds of a set's calls, in the order of their moments.
 pub type History = Listed<Deed>;
 
-/// The history of a run of the set with so many buckets, 1 to 64, by 1 to 8 callers: one deed for each call that ended
+/// The history of a run of the set with so many buckets, 1 to 64, by at least one caller: one deed for each call that ended
 /// with a number, and for each insert or removal that runs and whose first exchange in the table succeeded.
 ///
 /// # Errors
@@ -28,7 +28,6 @@ pub fn set_history(
     requires some_buckets { 1 ≤ buckets }
     requires most { buckets ≤ 64 }
     requires some { 1 ≤ callers }
-    requires few { callers ≤ 8 }
     ensures history { IsSetHistory buckets callers events.now result }
     ensures legal { IfOk result (λ deeds. SetLegal deeds) }
 {

@@ -6,7 +6,9 @@ use Rattle.norm_lang.specs.NormalForm.{IsNormal}
 use Rattle.norm_lang.specs.Laws.{ShippedAreWithin}
 use Rattle.norm_lang.specs.Shipped.{set_text, queue_text}
 use Rattle.target_code.specs.declared.target.Target.{Target}
+use Rattle.target_code.specs.Bare.{bare}
 use Rattle.target_code.specs.SecondScheme.{second_scheme}
+use Rattle.bare_targets.specs.BareLaws.{BareTextsAreRunnable}
 use Rattle.target_laws.specs.target_runs.Runnable.{MayBeWalked}
 use Rattle.barrier_compiler.specs.Laws.{SecondSchemeIsBarred, SecondSchemeIsWithin}
 use Rattle.oa_words.specs.SlotKinds.{together, slots_of}
@@ -18,10 +20,10 @@ use Rattle.core_runs.specs.Histories.{calls_of}
 use Rattle.claim_laws.specs.Untouched.{nodes_in}
 use Rattle.claim_laws.specs.Publishing.{news_of, HasFewNews, PublishedEnd, new_calls, new_calls_in}
 use Rattle.claim_laws.proofs.Taking.{full_takes_calls}
-use Rattle.shipped_claims.specs.NeverFull.{has_name, calls_named, calls_named_in, IsNeverFull, SetsAreNeverFull, QueueIsNeverFull}
+use Rattle.shipped_claims.specs.NeverFull.{has_name, calls_named, calls_named_in, IsNeverFull, SetsAreNeverFull, QueueIsNeverFull, BareSetsAreNeverFull, BareQueueIsNeverFull}
 use Rattle.shipped_claims.proofs.Published.{published_end}
-use Rattle.shipped_claims.proofs.Sets.{set_news, SetHolds, set_begins, set_carries}
-use Rattle.shipped_claims.proofs.Queue.{queue_news, QueueHolds, queue_begins, queue_carries}
+use Rattle.shipped_claims.proofs.Sets.{set_news, SetHolds, set_begins, set_carries, bare_set_news, bare_set_carries}
+use Rattle.shipped_claims.proofs.Queue.{queue_news, QueueHolds, queue_begins, queue_carries, bare_queue_news, BareQueueHolds, bare_queue_begins, bare_queue_carries}
 
 -- ---- only the operation so named has a `new`, and has one
 
@@ -51,11 +53,11 @@ module _ (name : List ℕ) (target : Target) (named : NewsAreNamed name target) 
   pub named_never_full : (text : Text) (setting : Setting) → MayBeWalked target text → IsSetting setting → Fits target setting → length target.kinds ≡ 1 → PublishedEnd target setting → IsNeverFull name target setting
   named_never_full text setting runs own fits single ends = record {
     each = λ state c i e replied reached room there got full.
-        let more = (full_takes_calls target text setting runs own fits).each state c i e replied few_news ends reached there got full in
+        let more = (full_takes_calls target text setting runs own fits).each reached.events state c i e replied few_news ends reached.runs there got full in
         let one : length setting.sizes.kinds ≡ 1 = fits.kinds ∙ single in
-        let first : more.0 ≡ 0 = (let lt = more.1 in omega (arith, lt, one)) in
-        let over : slots_of setting.sizes 0 < nodes_in setting 0 + new_calls_in target state.entries = subst (λ (k : ℕ). slots_of setting.sizes k < nodes_in setting k + new_calls_in target state.entries) first more.2 in
-        let all : slots_of setting.sizes 0 ≡ setting.sizes.slots = ap (λ (kinds : List ℕ). slice_index kinds 0) (single_kind setting.sizes own.sizes.8 one) in
+        let first : more.0 ≡ 0 = (let lt = more.2 in omega (arith, lt, one)) in
+        let over : slots_of setting.sizes 0 < nodes_in setting 0 + new_calls_in target state.entries = subst (λ (k : ℕ). slots_of setting.sizes k < nodes_in setting k + new_calls_in target state.entries) first more.3 in
+        let all : slots_of setting.sizes 0 ≡ setting.sizes.slots = ap (λ (kinds : List ℕ). slice_index kinds 0) (single_kind setting.sizes own.sizes.kinds one) in
         let nodes = first_within setting.nodes in
         let same = news_counted_in state.entries in
         omega (arith, over, all, nodes, room, same);
@@ -85,3 +87,23 @@ sets_never_full barred small shipped normal buckets setting some most own fits =
 pub queues_never_full : SecondSchemeIsBarred → SecondSchemeIsWithin → ShippedAreWithin → IsNormal queue_text → QueueIsNeverFull
 queues_never_full barred small shipped normal setting own fits =
     queue_never_full setting (record { small = shipped.1; normal = normal; within = small queue_text shipped.1; erases = (barred queue_text shipped.1 normal).erases }) own fits
+
+-- ---- the texts as they are
+
+pub bare_set_never_full : (buckets : ℕ) (setting : Setting) → MayBeWalked (bare (set_text buckets)) (set_text buckets) → IsSetting setting → Fits (bare (set_text buckets)) setting
+    → IsNeverFull (codes "insert") (bare (set_text buckets)) setting
+bare_set_never_full buckets setting runs own fits =
+    named_never_full (codes "insert") (bare (set_text buckets)) (bare_set_news buckets) (set_text buckets) setting runs own fits refl
+    (published_end (bare (set_text buckets)) (set_text buckets) setting runs own fits (SetHolds buckets) (set_begins buckets) (bare_set_carries buckets))
+
+pub bare_queue_never_full : (setting : Setting) → MayBeWalked (bare queue_text) queue_text → IsSetting setting → Fits (bare queue_text) setting → IsNeverFull (codes "enqueue") (bare queue_text) setting
+bare_queue_never_full setting runs own fits =
+    named_never_full (codes "enqueue") (bare queue_text) bare_queue_news queue_text setting runs own fits refl
+    (published_end (bare queue_text) queue_text setting runs own fits BareQueueHolds bare_queue_begins bare_queue_carries)
+
+pub bare_sets_never_full : BareTextsAreRunnable → ShippedAreWithin → ((buckets : ℕ) → 0 < buckets → IsNormal (set_text buckets)) → BareSetsAreNeverFull
+bare_sets_never_full runnable shipped normal buckets setting some most own fits =
+    bare_set_never_full buckets setting (runnable (set_text buckets) (shipped.0 buckets some most) (normal buckets (let le = some in omega (arith, le)))) own fits
+
+pub bare_queues_never_full : BareTextsAreRunnable → ShippedAreWithin → IsNormal queue_text → BareQueueIsNeverFull
+bare_queues_never_full runnable shipped normal setting own fits = bare_queue_never_full setting (runnable queue_text shipped.1 normal) own fits

@@ -78,8 +78,8 @@ module _ (target : Target) (setting : Setting) (e : Entry) (word : ℕ) where
   claim_publishes : (claim : Claim) → e.routine ≡ Claims claim → (let turn = claim_accepts setting.sizes setting.last claim word in ClaimOn setting e.number turn.ended turn.claim) → Publishes target setting made → ⊥
   claim_publishes claim is on p =
       let turn : ClaimTurn = claim_accepts setting.sizes setting.last claim word in
-      let later_is : later ≡ (claim_on setting.reclamation target turn.claim turn.ended (claim_counted (claim_takes claim word) (counted e))).entry = after_is target setting e word ∙ ap (λ (m : Moved). m.entry) (moved_claims setting.reclamation target setting e word claim is) in
-      claim_fills (claim_takes claim word) turn.claim turn.ended p.0 on p.1 (sym (ap (λ (x : Entry). cradle_of x p.0) later_is) ∙ p.2)
+      let later_is : later ≡ (claim_on setting.reclamation target turn.claim turn.ended (claim_counted (claim_takes setting.sizes claim word) (counted e))).entry = after_is target setting e word ∙ ap (λ (m : Moved). m.entry) (moved_claims setting.reclamation target setting e word claim is) in
+      claim_fills (claim_takes setting.sizes claim word) turn.claim turn.ended p.0 on p.1 (sym (ap (λ (x : Entry). cradle_of x p.0) later_is) ∙ p.2)
 
   -- only a list publishes
   lists_publish : is_idle e.routine ≡ false → ((claim : Claim) → e.routine ≡ Claims claim → (let turn = claim_accepts setting.sizes setting.last claim word in ClaimOn setting e.number turn.ended turn.claim))

@@ -10,6 +10,7 @@ use Rattle.norm_lang.specs.Shipped.{queue_text, root_entry, next_field, tail_roo
 use Rattle.target_code.specs.declared.target.TargetInstr.{TargetInstr}
 use Rattle.target_code.specs.declared.target.TargetInstr.TheVariants.{Plain, Check, Guard}
 use Rattle.target_code.specs.declared.target.Target.{Target}
+use Rattle.target_code.specs.Bare.{bare}
 use Rattle.target_code.specs.SecondScheme.{second_scheme}
 use Rattle.caller_parts.specs.Operands.{code_at}
 use Rattle.claim_laws.specs.Publishing.{news_of}
@@ -90,3 +91,69 @@ pub queue_carries : (op : ℕ) → CodeCarries (QueueHolds op) (code_at queue_ta
 queue_carries zero = subst (CodeCarries EnqueueHolds) (sym enqueue_is) enqueue_carries
 queue_carries (suc zero) = subst (CodeCarries ChangeHolds) (sym dequeue_is) (change_carries (instr.Return (Num 1)) instr.ReturnNone (λ registers next is. absurd cc) (λ registers next is. absurd cc))
 queue_carries (suc (suc op)) = nothing_carries
+
+-- ---- the text as it is
+
+abbrev bare_queue : Target
+bare_queue = bare queue_text
+
+pub bare_queue_news : (op : ℕ) → news_of (slice_get bare_queue.ops op) ≡ (if has_name (codes "enqueue") (slice_get bare_queue.ops op) then 1 else 0)
+bare_queue_news (suc zero) = refl
+bare_queue_news _ = refl
+
+-- the wrap-up of `enqueue`, which begins again at 8
+abbrev bare_enqueue_code : List TargetInstr
+bare_enqueue_code =
+    Plain (instr.Set (Num 1) 0)
+    ∷ Plain (instr.IfEq (Num 7) (Num 1) 8)
+    ∷ Plain (instr.LoadRoot (Ref 0) tail_root)
+    ∷ Plain (instr.LoadField (Ref 1) (Ref 0) next_field)
+    ∷ Plain (instr.Null (Ref 2))
+    ∷ Plain (instr.IfEq (Ref 1) (Ref 2) 7)
+    ∷ Plain (instr.Cas (root_entry tail_root (Ref 0) (Ref 1)) 7)
+    ∷ Plain (instr.Return (Num 0))
+    ∷ Plain instr.Again
+    ∷ []
+
+bare_enqueue_is : code_at bare_queue 0 true ≡ bare_enqueue_code
+bare_enqueue_is = refl
+
+bare_dequeue_is : code_at bare_queue 1 true ≡ change_code (instr.Return (Num 1)) instr.ReturnNone
+bare_dequeue_is = refl
+
+-- past the test of the count, before 8
+abbrev pub BareEnqueueHolds : ℕ → Registers → Type 0
+BareEnqueueHolds zero registers = SomeMade registers
+BareEnqueueHolds (suc zero) registers = WithZero 1 registers
+BareEnqueueHolds (suc (suc n)) registers = n < 6
+
+bare_enqueue_carries : CodeCarries BareEnqueueHolds bare_enqueue_code
+bare_enqueue_carries zero registers holds = λ next is. carried_to BareEnqueueHolds 1 (with_number registers (Num 1) 0) next (set_zero 1 registers (λ z. omega (arith, z)) holds) is
+bare_enqueue_carries (suc zero) registers holds = λ next is. of (are_equal registers (Num 7) (Num 1)) refl next is where
+  of : (b : Bool) → are_equal registers (Num 7) (Num 1) ≡ b → (next : Spot) → Some (record { at = if b then 8 else 2; registers = registers }) ≡ Some next → BareEnqueueHolds next.at next.registers
+  of true same next is = absurd (let z : true ≡ false = none_made 1 registers true holds same in cc)
+  of false same next is = carried_to BareEnqueueHolds 2 registers next (omega arith) is
+bare_enqueue_carries (suc (suc zero)) registers holds = λ word. omega arith
+bare_enqueue_carries (suc (suc (suc zero))) registers holds = λ word. omega arith
+bare_enqueue_carries (suc (suc (suc (suc zero)))) registers holds = λ next is. carried_to BareEnqueueHolds 5 (with_reference registers (Ref 2) no_reference) next (omega arith) is
+bare_enqueue_carries (suc (suc (suc (suc (suc zero))))) registers holds = λ next is. of (are_equal registers (Ref 1) (Ref 2)) next is where
+  of : (b : Bool) (next : Spot) → Some (record { at = if b then 7 else 6; registers = registers }) ≡ Some next → BareEnqueueHolds next.at next.registers
+  of true next is = carried_to BareEnqueueHolds 7 registers next (omega arith) is
+  of false next is = carried_to BareEnqueueHolds 6 registers next (omega arith) is
+bare_enqueue_carries (suc (suc (suc (suc (suc (suc zero)))))) registers holds = (omega arith, omega arith)
+bare_enqueue_carries (suc (suc (suc (suc (suc (suc (suc zero))))))) registers holds = λ next is. absurd cc
+bare_enqueue_carries (suc (suc (suc (suc (suc (suc (suc (suc n)))))))) registers holds = absurd (omega (arith, holds))
+
+abbrev pub BareQueueHolds : ℕ → ℕ → Registers → Type 0
+BareQueueHolds zero = BareEnqueueHolds
+BareQueueHolds (suc zero) = ChangeHolds
+BareQueueHolds (suc (suc op)) = AnswerHolds
+
+pub bare_queue_begins : (op : ℕ) → Begins (BareQueueHolds op)
+bare_queue_begins (suc (suc op)) registers some = tt
+bare_queue_begins _ registers some = some
+
+pub bare_queue_carries : (op : ℕ) → CodeCarries (BareQueueHolds op) (code_at bare_queue op true)
+bare_queue_carries zero = subst (CodeCarries BareEnqueueHolds) (sym bare_enqueue_is) bare_enqueue_carries
+bare_queue_carries (suc zero) = subst (CodeCarries ChangeHolds) (sym bare_dequeue_is) (change_carries (instr.Return (Num 1)) instr.ReturnNone (λ registers next is. absurd cc) (λ registers next is. absurd cc))
+bare_queue_carries (suc (suc op)) = nothing_carries

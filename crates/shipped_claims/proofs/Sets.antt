@@ -7,6 +7,7 @@ use Rattle.norm_lang.specs.declared.registers.Registers.{Registers}
 use Rattle.norm_lang.specs.Shipped.{set_text}
 use Rattle.target_code.specs.declared.target.TargetInstr.TheVariants.{Plain}
 use Rattle.target_code.specs.declared.target.Target.{Target}
+use Rattle.target_code.specs.Bare.{bare}
 use Rattle.target_code.specs.SecondScheme.{second_scheme}
 use Rattle.caller_parts.specs.Operands.{code_at}
 use Rattle.claim_laws.specs.Publishing.{news_of}
@@ -52,3 +53,27 @@ module _ (buckets : ℕ) where
   set_carries (suc zero) = subst (CodeCarries ChangeHolds) (sym remove_code) changes
   set_carries (suc (suc zero)) = subst (CodeCarries AnswerHolds) (sym contains_code) answer_carries
   set_carries (suc (suc (suc op))) = nothing_carries
+
+  -- ---- the text as it is
+
+  abbrev bare_set : Target
+  bare_set = bare (set_text buckets)
+
+  pub bare_set_news : (op : ℕ) → news_of (slice_get bare_set.ops op) ≡ (if has_name (codes "insert") (slice_get bare_set.ops op) then 1 else 0)
+  bare_set_news (suc (suc zero)) = refl
+  bare_set_news _ = refl
+
+  bare_insert_code : code_at bare_set 0 true ≡ change_code (instr.Return (Num 2)) (instr.Return (Num 3))
+  bare_insert_code = refl
+
+  bare_remove_code : code_at bare_set 1 true ≡ change_code (instr.Return (Num 2)) (instr.Return (Num 3))
+  bare_remove_code = refl
+
+  bare_contains_code : code_at bare_set 2 true ≡ Plain (instr.Return (Num 2)) ∷ []
+  bare_contains_code = refl
+
+  pub bare_set_carries : (op : ℕ) → CodeCarries (SetHolds op) (code_at bare_set op true)
+  bare_set_carries zero = subst (CodeCarries ChangeHolds) (sym bare_insert_code) changes
+  bare_set_carries (suc zero) = subst (CodeCarries ChangeHolds) (sym bare_remove_code) changes
+  bare_set_carries (suc (suc zero)) = subst (CodeCarries AnswerHolds) (sym bare_contains_code) answer_carries
+  bare_set_carries (suc (suc (suc op))) = nothing_carries

@@ -5,6 +5,7 @@ use Rattle.norm_lang.specs.Shipped.{set_text, queue_text}
 use Rattle.norm_lang.specs.declared.reply.SourceReply.TheVariants as replies
 use Rattle.target_code.specs.declared.target.TargetOp.{TargetOp}
 use Rattle.target_code.specs.declared.target.Target.{Target}
+use Rattle.target_code.specs.Bare.{bare}
 use Rattle.target_code.specs.SecondScheme.{second_scheme}
 use Rattle.oa_words.specs.SlotKinds.{together}
 use Rattle.caller_parts.specs.declared.call.Replied.{Replied}
@@ -44,3 +45,12 @@ SetsAreNeverFull = (buckets : ℕ) (setting : Setting) → 1 ≤ buckets → buc
 -- the queue, if each `enqueue` has one
 abbrev pub QueueIsNeverFull : Type 0
 QueueIsNeverFull = (setting : Setting) → IsSetting setting → Fits (second_scheme queue_text) setting → IsNeverFull (codes "enqueue") (second_scheme queue_text) setting
+
+-- ---- under epochs, of the texts as they are
+
+abbrev pub BareSetsAreNeverFull : Type 0
+BareSetsAreNeverFull = (buckets : ℕ) (setting : Setting) → 1 ≤ buckets → buckets ≤ 64 → IsSetting setting → Fits (bare (set_text buckets)) setting
+    → IsNeverFull (codes "insert") (bare (set_text buckets)) setting
+
+abbrev pub BareQueueIsNeverFull : Type 0
+BareQueueIsNeverFull = (setting : Setting) → IsSetting setting → Fits (bare queue_text) setting → IsNeverFull (codes "enqueue") (bare queue_text) setting

@@ -96,7 +96,7 @@ pub data Deal (A : Type 0) (step : Deed → A → Option A) (T : Times A) (c : �
 some_ap : {A : Type 0} {x y : A} → x ≡ y → Some x ≡ Some y
 some_ap e = ap (λ x. Some x) e
 
-same_some : {A : Type 0} (x y : A) → Some x ≡ Some y → x ≡ y
+pub same_some : {A : Type 0} (x y : A) → Some x ≡ Some y → x ≡ y
 same_some x y e = let z : Some x ≡ Some y = e in cc
 
 -- what is true of earlier times stays so
@@ -185,7 +185,7 @@ mine_tick : {A : Type 0} (step : Deed → A → Option A) (T : Times A) (slot : 
 mine_tick step T slot c b = mine_next c slot T.time ∙ (ap (λ k. mine c slot T.time ++ k) (held_none c (slot T.time) (b.later T.time (omega arith))) ∙ append_none (mine c slot T.time))
 
 -- a slot that isn't the caller's, of an event of the caller's own, is empty
-free_slot : {A : Type 0} (step : Deed → A → Option A) (T : Times A) (slot : Slots) (c m : ℕ) → Books A step T slot → T.by m ≡ Some c → held c (slot m) ≡ [] → slot m ≡ None
+pub free_slot : {A : Type 0} (step : Deed → A → Option A) (T : Times A) (slot : Slots) (c m : ℕ) → Books A step T slot → T.by m ≡ Some c → held c (slot m) ≡ [] → slot m ≡ None
 free_slot step T slot c m b own none = of (slot m) refl where
   of : (o : Option Deed) → slot m ≡ o → o ≡ None
   of None e = refl
@@ -202,7 +202,7 @@ tell_as ds ds' es now e k = subst (λ x. Tell x es now) (sym e) k
 later_held : {A : Type 0} (step : Deed → A → Option A) (T : Times A) (slot : Slots) (c : ℕ) → Books A step T slot → (j : ℕ) → T.time ≤ j → held c (slot j) ≡ []
 later_held step T slot c b j le = held_none c (slot j) (b.later j le)
 
-ended_log : (t : ℕ) (reply : SourceReply) (call : Started) (log : Log) → log.now ≡ Some call → log_ended t reply log.now log ≡ record { done = log.done ++ record { call = call; reply = reply; at = t } ∷ []; now = None }
+pub ended_log : (t : ℕ) (reply : SourceReply) (call : Started) (log : Log) → log.now ≡ Some call → log_ended t reply log.now log ≡ record { done = log.done ++ record { call = call; reply = reply; at = t } ∷ []; now = None }
 ended_log t reply call log e = ap (λ o. log_ended t reply o log) e
 
 -- the call that ends has its deed, or has given up

@@ -65,13 +65,13 @@ book_left text b event who noted log = record {
   log = put b.log (mover event) log;
 }
 
-step_is : (text : Text) (event : SourceEvent) (m : SourceMachine) (caller : SourceCaller) (t : Turn) → slice_get m.callers (mover event) ≡ Some caller → caller_turn text event m.memory caller ≡ t
+pub step_is : (text : Text) (event : SourceEvent) (m : SourceMachine) (caller : SourceCaller) (t : Turn) → slice_get m.callers (mover event) ≡ Some caller → caller_turn text event m.memory caller ≡ t
     → source_step text m event ≡ record { memory = t.memory; callers = slice_set m.callers (mover event) t.caller }
 step_is text event m caller t at is = ap (λ o. step_of text event o m) at ∙ ap (λ (k : Turn). with_turn m (mover event) k) is
 
 module _ (text : Text) (rules : Rules) (A S : Type 0) (first : A) (step : Deed → A → Option A) (memory_of : S → Memory) (Fine : S → Type 0) (object : S → A) (Knows : S → Times A → Notes → Phase → ℕ → SourceCaller → Type 0)
     (Goes : ℕ → S → S → Type 0) where
-  left : ((c d : ℕ) (who : Option ℕ) (s s' : S) (T : Times A) (notes : Notes) (phase : Phase) (caller : SourceCaller) → Goes c s s' → Fine s → d ≢ c → Knows s T notes phase d caller → Knows s' (ticked T who (object s')) notes phase d caller)
+  unfoldable pub left : ((c d : ℕ) (who : Option ℕ) (s s' : S) (T : Times A) (notes : Notes) (phase : Phase) (caller : SourceCaller) → Goes c s s' → Fine s → d ≢ c → Knows s T notes phase d caller → Knows s' (ticked T who (object s')) notes phase d caller)
       → (event : SourceEvent) (b : Book) (caller : SourceCaller) → slice_get b.machine.callers (mover event) ≡ Some caller → (r : Recorded A S first step memory_of Fine object Knows b)
       → (k : Dealt text rules A S step memory_of Fine object Knows Goes event (mover event) r.s (record { time = b.time; past = r.past; by = b.by }) (b.notes (mover event)) (r.phase (mover event)) caller)
       → Recorded A S first step memory_of Fine object Knows (book_left text b event (accesses event caller.running) k.noted (moved b.time k.move (b.log (mover event))))
@@ -140,7 +140,7 @@ module _ (text : Text) (rules : Rules) (A S : Type 0) (first : A) (step : Deed �
         after : (caller_turn text event b.machine.memory caller).caller ≡ k.after
         after = ap (λ (t : Turn). t.caller) (ap (λ (m : Memory). caller_turn text event m caller) r.memory ∙ k.turn)
 
-  stepped : ((c d : ℕ) (who : Option ℕ) (s s' : S) (T : Times A) (notes : Notes) (phase : Phase) (caller : SourceCaller) → Goes c s s' → Fine s → d ≢ c → Knows s T notes phase d caller → Knows s' (ticked T who (object s')) notes phase d caller)
+  pub stepped : ((c d : ℕ) (who : Option ℕ) (s s' : S) (T : Times A) (notes : Notes) (phase : Phase) (caller : SourceCaller) → Goes c s s' → Fine s → d ≢ c → Knows s T notes phase d caller → Knows s' (ticked T who (object s')) notes phase d caller)
       → ((event : SourceEvent) (s : S) (T : Times A) (notes : Notes) (phase : Phase) (caller : SourceCaller) → Fine s → object s ≡ T.past T.time → Knows s T notes phase (mover event) caller
       → is_enabled_by text event (performed text caller) (memory_of s) caller ≡ true
       → Dealt text rules A S step memory_of Fine object Knows Goes event (mover event) s T notes phase caller)
@@ -162,7 +162,7 @@ book_machine : (text : Text) (rules : Rules) (b : Book) (event : SourceEvent) (f
 book_machine text rules b event None at e = absurd (let z : false ≡ true = e in cc)
 book_machine text rules b event (Some caller) at e = refl
 
-along_books : (text : Text) (rules : Rules) (P : Book → Type 0) → ((b : Book) (event : SourceEvent) → is_enabled text b.machine event ≡ true → P b → P (book_step text rules b event))
+pub along_books : (text : Text) (rules : Rules) (P : Book → Type 0) → ((b : Book) (event : SourceEvent) → is_enabled text b.machine event ≡ true → P b → P (book_step text rules b event))
     → (events : List SourceEvent) (b : Book) (state : SourceMachine) → source_run text events b.machine ≡ Some state → P b → P (book_run text rules events b) × ((book_run text rules events b).machine ≡ state)
 along_books text rules P keeps [] b state runs here = (here, let z : Some b.machine ≡ Some state = runs in cc)
 along_books text rules P keeps (event ∷ events) b state runs here =
@@ -192,7 +192,7 @@ answers A S first step memory_of Fine object Knows runs b state same r = record 
   same_deeds : deeds_in b.slots ≡ deeds_to r.slot b.time
   same_deeds = ap deeds_in r.slots ∙ deeds_of_slots r.slot b.time
 
-starts : (text : Text) (A S : Type 0) (step : Deed → A → Option A) (memory_of : S → Memory) (Fine : S → Type 0) (object : S → A) (Knows : S → Times A → Notes → Phase → ℕ → SourceCaller → Type 0)
+pub starts : (text : Text) (A S : Type 0) (step : Deed → A → Option A) (memory_of : S → Memory) (Fine : S → Type 0) (object : S → A) (Knows : S → Times A → Notes → Phase → ℕ → SourceCaller → Type 0)
     (s : S) → first_memory text ≡ memory_of s → Fine s → ((T : Times A) (c : ℕ) → Knows s T no_notes Resting c idle_caller) → (callers : ℕ) → Recorded A S (object s) step memory_of Fine object Knows (book_start text callers)
 starts text A S step memory_of Fine object Knows s memory fine idle callers = record {
   s = s;

@@ -1,12 +1,15 @@
 -- What deeds say of the calls of a run.
-use Rattle.std.specs.Prelude.{◌≡◌, ◌≤◌, ◌<◌, ◌⊎◌, ◌+◌, ℕ, Bool, true, false, List, [], ◌∷◌, map, Option, Some, None, is_some, slice_get}
+use Rattle.std.specs.Prelude.{◌≡◌, ◌≤◌, ◌<◌, ◌⊎◌, ◌+◌, ◌++◌, ℕ, Bool, true, false, List, [], ◌∷◌, length, map, Option, Some, None, is_some, slice_get}
 use Rattle.norm_lang.specs.declared.reply.SourceReply.{SourceReply}
 use Rattle.norm_lang.specs.declared.reply.SourceReply.TheVariants as replies
 use Rattle.source_machine.specs.declared.state.SourceCaller.{SourceCaller}
 use Rattle.source_machine.specs.declared.state.SourceMachine.{SourceMachine}
+use Rattle.source_machine.specs.declared.event.SourceEvent.{SourceEvent}
+use Rattle.norm_lang.specs.declared.text.Text.{Text}
+use Rattle.source_machine.specs.Run.{IsSourceRun}
 use Rattle.source_histories.specs.declared.deed.Deed.{Deed}
 use Rattle.source_histories.specs.Deeds.{deeds_in, of_caller, AreLegal}
-use Rattle.source_histories.specs.Books.{Started, Ended, replied_with, Book}
+use Rattle.source_histories.specs.Books.{Started, Ended, Rules, replied_with, Book, book_of}
 
 -- the replies of a caller that gives up
 abbrev pub gives_up : SourceReply → Bool
@@ -67,3 +70,28 @@ pub record AnswersAs (A : Type 0) (step : Deed → A → Option A) (first : A) (
   pub told : (c : ℕ) → Tell (of_caller c (deeds_in b.slots)) (b.log c).done (b.log c).now
   pub replied : (c : ℕ) (caller : SourceCaller) → slice_get state.callers c ≡ Some caller → caller.replies ≡ map replied_with (b.log c).done
   pub running : (c : ℕ) (caller : SourceCaller) → slice_get state.callers c ≡ Some caller → is_some caller.running ≡ is_some (b.log c).now
+
+-- ---- a running call that has a deed
+
+-- a call of the caller runs, and this deed is told of it: those before it tell the calls that have ended
+pub record RunsWith (b : Book) (c : ℕ) (call : Started) (d : Deed) : Type 0 where
+  pub now : (b.log c).now ≡ Some call
+  pub before : List Deed
+  pub told : of_caller c (deeds_in b.slots) ≡ before ++ d ∷ []
+  pub ended : Tell before (b.log c).done None
+  pub of : IsOf call d
+
+-- the caller's call of a number, from 0 on, has ended, and this deed is told of it, in the slot of its moment
+pub record EndedWith (b : Book) (c i : ℕ) (call : Started) (d : Deed) : Type 0 where
+  pub end : Ended
+  pub there : slice_get (b.log c).done i ≡ Some end
+  pub same : end.call ≡ call
+  pub deed : IsOfEnded end d
+  pub stands : slice_get b.slots d.moment ≡ Some (Some d)
+
+-- what is told of a running call stands: if the run goes on, the call runs on with this deed, or it has ended with it
+abbrev pub DeedsStand : Text → Rules → Type 0
+DeedsStand text rules = (callers : ℕ) (events more : List SourceEvent) (state later : SourceMachine) → IsSourceRun text callers events state → IsSourceRun text callers (events ++ more) later
+    → (c : ℕ) (call : Started) (d : Deed) → RunsWith (book_of text rules callers events) c call d
+    → RunsWith (book_of text rules callers (events ++ more)) c call d
+    ⊎ EndedWith (book_of text rules callers (events ++ more)) c (length ((book_of text rules callers events).log c).done) call d

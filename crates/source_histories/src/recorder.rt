@@ -138,7 +138,6 @@ fn record_from<R: Reader>(
     notes: &mut Listed<Notes>,
 ) -> Result<Listed<Deed>, RunError>
     requires some { 1 ≤ callers }
-    requires few { callers ≤ 8 }
     requires start { state.old ≡ source_start normal.now callers }
     requires run { IsOfSourceRun normal.now state.old }
     requires many { length state.old.callers ≡ callers }
@@ -169,7 +168,6 @@ fn record_at<R: Reader>(
     state: &mut SourceState,
 ) -> Result<Listed<Deed>, RunError>
     requires some { 1 ≤ callers }
-    requires few { callers ≤ 8 }
     requires start { state.old ≡ source_start normal.now callers }
     requires run { IsOfSourceRun normal.now state.old }
     requires many { length state.old.callers ≡ callers }
@@ -194,7 +192,6 @@ pub fn record<R: Reader>(
     events: &[SourceEvent],
 ) -> Result<Listed<Deed>, RunError>
     requires some { 1 ≤ callers }
-    requires few { callers ≤ 8 }
     ensures { Records normal.now (R.rules reader.now) callers events.now result }
 {
     let mut state = SourceState::start(alloc, normal, callers)?;

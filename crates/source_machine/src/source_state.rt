@@ -41,19 +41,25 @@ fn first_machine(alloc: Global, text: &Text, callers: u32) -> Result<SourceMachi
 }
 
 impl SourceState {
-    /// The start of a text: its initial nodes and roots, and so many idle callers, 1 to 8.
+    /// The start of a text: its initial nodes and roots, and so many idle callers, at least one.
     ///
     /// # Errors
     /// `AllocError` if memory runs out.
     pub fn start(alloc: Global, normal: &Normal, callers: u32) -> Result<SourceState, AllocError>
         requires some { 1 ≤ callers }
-        requires few { callers ≤ 8 }
         ensures starts { IfOk result (λ s. s ≡ source_start normal.now callers) }
         ensures runs { IfOk result (λ s. IsOfSourceRun normal.now s) }
         ensures callers { IfOk result (λ s. length s.callers ≡ callers) }
     {
         let machine = first_machine(alloc, normal.text(), callers)?;
         Ok(SourceState { machine })
+    }
+
+    /// The state's parts, to read.
+    pub fn machine(&self) -> &SourceMachine
+        ensures { result.now ≡ self.now }
+    {
+        &self.machine
     }
 }
 
@@ -97,8 +103,8 @@ fn make_events(
     Ok(())
 }
 
-/// The state after a list of events, each enabled in the state that those before it leave, from the start of 1 to 8 idle
-/// callers.
+/// The state after a list of events, each enabled in the state that those before it leave, from the start of idle callers, at
+/// least one.
 ///
 /// # Errors
 /// `NotEnabled` with the place of the first event that isn't enabled, and `Memory` if memory runs out.
@@ -110,7 +116,6 @@ pub fn run(
     events: &[SourceEvent],
 ) -> Result<SourceState, RunError>
     requires some { 1 ≤ callers }
-    requires few { callers ≤ 8 }
     ensures answers { RunsTo normal.now callers events.now result }
     ensures runs { IfOk result (λ s. IsOfSourceRun normal.now s) }
     ensures callers { IfOk result (λ s. length s.callers ≡ callers) }

@@ -26,7 +26,8 @@ pub enum Status {
     BadShape { number: u8, at: u64 },
     /// The sink failed.
     WriteFault,
-    /// Memory ran out, before the first step of a call; in a workload, before the first step of its second part.
+    /// Memory ran out: before the first step of a call, in a workload before the first step of its second part, and when a certificate is made
+    /// or judged at any step.
     Memory,
     /// The certificate doesn't tell of a run of its document: what is wrong, by its number, and at which event or caller, from 0.
     Rejected { number: u8, at: u64 },

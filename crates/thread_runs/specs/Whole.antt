@@ -1,9 +1,9 @@
 -- A whole run of scripts.
-use Rattle.std.specs.Prelude.{◌≡◌, ℕ, List, slice_index, All}
+use Rattle.std.specs.Prelude.{◌≡◌, ℕ, List, length, slice_index, All}
 use Rattle.caller_parts.specs.declared.call.Call.{Call}
 use Rattle.caller_steps.specs.Entries.{RoomyEntry}
 use Rattle.core_runs.specs.Machine.{CoreState, CoreEvent}
-use Rattle.core_runs.specs.Scripts.{IsCompleteRun}
+use Rattle.core_runs.specs.Scripts.{SuitScripts, IsCompleteRun}
 use Rattle.core_runs.specs.core_sound.Sound.{IsSound}
 use Rattle.word_runner.specs.table_rule.Seen.{Fixed}
 use Rattle.word_runner.specs.table_rule.Seats.{cores}
@@ -28,6 +28,19 @@ AllLongest scripts rs = All (λ (r : RoomyEntry). IsLongest scripts r.room) rs
 
 abbrev pub AreShort : List (List Call) → Type 0
 AreShort scripts = IsRoomForEach scripts most_calls
+
+-- so many callers that are ready to run, each with this room
+pub record ReadyShown : Type 0 where
+  pub fixed : Fixed
+  pub count : ℕ
+  pub room : ℕ
+
+-- they are one for each script, with room for the longest
+pub record IsReadyFor (scripts : List (List Call)) (r : ReadyShown) : Type 0 where
+  pub suit : SuitScripts r.fixed.target.target r.fixed.setting scripts
+  pub each : r.count ≡ length scripts
+  pub longest : IsLongest scripts r.room
+  pub short : AreShort scripts
 
 -- the phase and the entries are those of one state of the core, in which a complete run of the scripts ends, and each entry has
 -- room for the longest script

@@ -5,4 +5,4 @@ mod scripts;
 mod whole;
 
 pub use scripts::CallList;
-pub use whole::{run_bare, run_scripts};
+pub use whole::{ReadyCallers, run_bare, run_scripts};

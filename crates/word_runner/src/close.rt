@@ -33,7 +33,8 @@ pub struct Final {
 }
 
 impl Arena {
-    /// A table for the callers of a setting that fits the target, and its first blank, with room for `room` replies.
+    /// A table for the callers of a setting that fits the target, and its first blank, with room for `room` replies. It is meant for
+    /// optimistic access: under epochs a call that comes to a check of the target stays there until its budget is spent.
     ///
     /// # Errors
     /// Memory ran out. The arguments are dropped.

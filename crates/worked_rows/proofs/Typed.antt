@@ -136,7 +136,7 @@ after = source_step mated (source_step mated (source_step mated (source_start ma
 
 runs : IsSourceRun mated 1 to_the_key after
 unfolding after
-runs = record { some = omega arith; few = omega arith; runs = refl }
+runs = record { some = omega arith; runs = refl }
 
 within : IsWithinLimits mated
 within = refl

@@ -106,7 +106,7 @@ unmarking_run =
 
 pub unmarking_is_improper : UnmarkingIsImproper
 unmarking_is_improper proper =
-    let k = proper 2 (five ++ (seven ++ (unmarking_first ++ (unmarking_second ++ last)))) unmarking_end (record { some = omega arith; few = omega arith; runs = unmarking_run }) in
+    let k = proper 2 (five ++ (seven ++ (unmarking_first ++ (unmarking_second ++ last)))) unmarking_end (omega arith) (record { some = omega arith; runs = unmarking_run }) in
     let e : true ≡ false = k.roots 0 3 (record { node = 1; marked = false }) refl (onward 1 3 3 (1, false, refl) (itself 3)) in cc
 
 abbrev walking_first : List SourceEvent
@@ -148,7 +148,7 @@ walking_run =
 
 pub walking_is_improper : WalkingIsImproper
 walking_is_improper proper =
-    let k = proper 2 (five ++ (seven ++ (walking_first ++ (walking_second ++ last)))) walking_end (record { some = omega arith; few = omega arith; runs = walking_run }) in
+    let k = proper 2 (five ++ (seven ++ (walking_first ++ (walking_second ++ last)))) walking_end (omega arith) (record { some = omega arith; runs = walking_run }) in
     let e : true ≡ false = k.roots 0 3 (record { node = 1; marked = false }) refl (onward 1 3 3 (1, false, refl) (itself 3)) in cc
 
 abbrev moving_first : List SourceEvent
@@ -190,7 +190,7 @@ moving_run =
 
 pub moving_is_improper : MovingIsImproper
 moving_is_improper proper =
-    let k = proper 2 (five ++ (seven ++ (moving_first ++ (moving_second ++ last)))) moving_end (record { some = omega arith; few = omega arith; runs = moving_run }) in
+    let k = proper 2 (five ++ (seven ++ (moving_first ++ (moving_second ++ last)))) moving_end (omega arith) (record { some = omega arith; runs = moving_run }) in
     let e : true ≡ false = k.roots 0 3 (record { node = 1; marked = false }) refl (onward 1 3 3 (1, false, refl) (itself 3)) in cc
 
 abbrev loading_five : List SourceEvent
@@ -238,5 +238,5 @@ unchecking_run =
 
 pub unchecking_is_improper : UncheckingIsImproper
 unchecking_is_improper proper =
-    let k = proper 2 (loading_five ++ (loading_seven ++ (unchecking_first ++ (unchecking_second ++ last)))) unchecking_end (record { some = omega arith; few = omega arith; runs = unchecking_run }) in
+    let k = proper 2 (loading_five ++ (loading_seven ++ (unchecking_first ++ (unchecking_second ++ last)))) unchecking_end (omega arith) (record { some = omega arith; runs = unchecking_run }) in
     let e : true ≡ false = k.roots 0 3 (record { node = 1; marked = false }) refl (onward 1 4 3 (1, false, refl) (onward 4 3 3 (1, false, refl) (itself 3))) in cc

@@ -7,7 +7,8 @@ use Rattle.oa_words.specs.declared.packed.Kind.TheVariants as kinds
 use Rattle.oa_words.specs.Words.{Word, Phase, Warning, Hazard, Status, Head, Link, Sizes, SlotRange, IsSlot}
 use Rattle.oa_words.specs.SlotKinds.{range_of, kind_of, range_at}
 use Rattle.oa_words.specs.Within.{AreKinds}
-use Rattle.oa_words.specs.Packed.{StatusParts, status_word, status_parts, head_word, head_parts}
+use Rattle.oa_words.specs.Packed.{StatusParts, status_word, status_parts, HeadParts, head_word, head_parts}
+use Rattle.oa_words.proofs.Parts.{head_back}
 use Rattle.oa_words.specs.Starts.{Beginning, nodes_of, first_ready, slot_after, start_kind, start_link, start_top, start_word}
 use Rattle.oa_words.proofs.KindRanges.{part_within, kind_small, in_range_is_of_kind, of_kind_is_in_range}
 use Rattle.phase_pools.specs.declared.access.ClaimEnd.{ClaimEnd}
@@ -24,6 +25,7 @@ use Rattle.phase_pools.specs.declared.stages.RetireStage.{RetireStage}
 use Rattle.phase_pools.specs.declared.stages.RetireStage.TheVariants as retires
 use Rattle.phase_pools.specs.Accesses.{WordAccess, word_of}
 use Rattle.phase_pools.specs.Pools.{Sweep, warn_wanted, low_after, sweep_wants_at, sweep_accepts_at, sweep_goes, sweep_ends, sweep_on, phase_read, phase_raised, warned_all, warn_next, hazard_next, hazard_read, status_read, Claim, claim_begun, claim_wants, claim_accepts, claim_wants_at, claim_accepts_at, claim_goes, claim_ends, sweep_follows, look_ended, look_begun, sweep_started, sweep_ended, retire_begun, retire_wants, retire_accepts, retire_wants_at, retire_accepts_at}
+use Rattle.phase_pools.proofs.Keeping.{claim_stays}
 use Rattle.phase_pools.proofs.Statuses.{from_slot, from_status}
 use Rattle.oa_words.specs.Memories.{store}
 use Rattle.chain_laws.specs.Memories.{put, after_access}
@@ -50,17 +52,17 @@ abbrev pub Kept : Sizes → (ℕ → ℕ) → ℕ → (Word → ℕ) → (Word �
 Kept n nodes first m m' v = AreOrdered n nodes first m' v × AllStay n v m m'
 
 -- kind by kind
-kept_each : (n : Sizes) (nodes : ℕ → ℕ) (first : ℕ) (m m' : Word → ℕ) (v : ℕ → ℕ) → ((k : ℕ) → k < length n.kinds → IsOrdered (range_of n k) k (nodes k) first m' (v k) × Stays (range_of n k) (v k) m m') → Kept n nodes first m m' v
+kept_each : (n : Sizes) (nodes : ℕ → ℕ) (first : ℕ) (m m' : Word → ℕ) (v : ℕ → ℕ) → ((k : ℕ) → k < length n.kinds → IsOrdered n.tops (range_of n k) k (nodes k) first m' (v k) × Stays (range_of n k) (v k) m m') → Kept n nodes first m m' v
 kept_each n nodes first m m' v each = ((λ k lt. (each k lt).0), (λ k lt. (each k lt).1))
 
 pub ordered_same : (n : Sizes) (nodes : ℕ → ℕ) (first : ℕ) (m m' : Word → ℕ) (v : ℕ → ℕ) → Same m m' → AreOrdered n nodes first m v → Kept n nodes first m m' v
 ordered_same n nodes first m m' v same o = kept_each n nodes first m m' v
-    (λ k lt. ordered_with (range_of n k) k (nodes k) first m m' (v k) (o k lt) (top_kept (range_of n k) k (nodes k) first m m' (v k) (same.head k) (o k lt)) (λ j slot. inl (same.link j)) (λ j slot. inl (same.status j)))
+    (λ k lt. ordered_with n.tops (range_of n k) k (nodes k) first m m' (v k) (o k lt) (top_kept n.tops (range_of n k) k (nodes k) first m m' (v k) (same.head k) (o k lt)) (λ j slot. inl (same.link j)) (λ j slot. inl (same.status j)))
 
 -- a status below the frontier of the slot's kind changes
 ordered_status : (n : Sizes) (nodes : ℕ → ℕ) (first : ℕ) (m : Word → ℕ) (v : ℕ → ℕ) (i x : ℕ) → i < v (kind_of n i) → AreOrdered n nodes first m v → Kept n nodes first m (store m (Status i) x) v
 ordered_status n nodes first m v i x low o = kept_each n nodes first m (store m (Status i) x) v
-    (λ k lt. ordered_with (range_of n k) k (nodes k) first m (store m (Status i) x) (v k) (o k lt) (o k lt).top_good (λ j slot. inl refl)
+    (λ k lt. ordered_with n.tops (range_of n k) k (nodes k) first m (store m (Status i) x) (v k) (o k lt) (o k lt).top_good (λ j slot. inl refl)
     (λ j slot. ⊎_elim
     (λ (z : j ≡ i). inr (let is : kind_of n i ≡ k = ap (kind_of n) (sym z) ∙ in_range_is_of_kind n k j lt slot in let less : i < v k = subst (λ (a : ℕ). i < v a) is low in omega (arith, z, less)))
     (λ (ne : j ≢ i). inl (status_other m i x j ne))
@@ -70,7 +72,7 @@ ordered_status n nodes first m v i x low o = kept_each n nodes first m (store m 
 ordered_link : (n : Sizes) (nodes : ℕ → ℕ) (first : ℕ) (m : Word → ℕ) (v : ℕ → ℕ) (i x : ℕ) → IsPast (range_at n i) (v (kind_of n i)) i → IsGood (range_at n i) m (v (kind_of n i)) x → AreOrdered n nodes first m v
     → Kept n nodes first m (store m (Link i) x) v
 ordered_link n nodes first m v i x past good o = kept_each n nodes first m (store m (Link i) x) v
-    (λ k lt. ordered_with (range_of n k) k (nodes k) first m (store m (Link i) x) (v k) (o k lt) (o k lt).top_good
+    (λ k lt. ordered_with n.tops (range_of n k) k (nodes k) first m (store m (Link i) x) (v k) (o k lt) (o k lt).top_good
     (λ j slot. ⊎_elim (λ (z : j ≡ i). inr (stored k j z (ap (kind_of n) (sym z) ∙ in_range_is_of_kind n k j lt slot))) (λ (ne : j ≢ i). inl (link_other m i x j ne)) (cases_eq j i))
     (λ j slot. inl refl))
   where
@@ -81,25 +83,25 @@ ordered_link n nodes first m v i x past good o = kept_each n nodes first m (stor
         (past, subst (λ (y : ℕ). IsGood (range_at n i) m (v (kind_of n i)) y) (sym (link_here m i x)) good))
 
 -- a good slot is put on top of a kind's chain
-ordered_top : (n : Sizes) (nodes : ℕ → ℕ) (first : ℕ) (m : Word → ℕ) (v : ℕ → ℕ) (k q t : ℕ) → AreKinds n → n.slots ≤ 4096 → IsGood (range_of n k) m (v k) t → AreOrdered n nodes first m v
-    → Kept n nodes first m (store m (Head k) (head_word q t)) v
-ordered_top n nodes first m v k q t are most good o = kept_each n nodes first m (store m (Head k) (head_word q t)) v
-    (λ i lt. ordered_with (range_of n i) i (nodes i) first m (store m (Head k) (head_word q t)) (v i) (o i lt)
-    (each_head (λ a w. a < length n.kinds → IsGood (range_of n a) m (v a) (head_parts w).top) m k (head_word q t)
+ordered_top : (n : Sizes) (nodes : ℕ → ℕ) (first : ℕ) (m : Word → ℕ) (v : ℕ → ℕ) (k q t : ℕ) → AreKinds n → n.slots < n.tops → IsGood (range_of n k) m (v k) t → AreOrdered n nodes first m v
+    → Kept n nodes first m (store m (Head k) (head_word n.tops q t)) v
+ordered_top n nodes first m v k q t are most good o = kept_each n nodes first m (store m (Head k) (head_word n.tops q t)) v
+    (λ i lt. ordered_with n.tops (range_of n i) i (nodes i) first m (store m (Head k) (head_word n.tops q t)) (v i) (o i lt)
+    (each_head (λ a w. a < length n.kinds → IsGood (range_of n a) m (v a) (head_parts n.tops w).top) m k (head_word n.tops q t)
     (λ less. subst (λ (x : ℕ). IsGood (range_of n k) m (v k) x) (sym top_is) good) (λ a ne less. (o a less).top_good) i lt)
     (λ j slot. inl refl) (λ j slot. inl refl))
   where
-    top_is : (head_parts (head_word q t)).top ≡ t
-    top_is = let inside = near_inside (range_of n k) (v k) t good.0 in let last = last_within n k are in omega (arith, inside, last, most)
+    top_is : (head_parts n.tops (head_word n.tops q t)).top ≡ t
+    top_is = let inside = near_inside (range_of n k) (v k) t good.0 in let last = last_within n k are in ap (λ (p : HeadParts). p.top) (head_back n.tops q t (omega (arith, inside, last, most)))
 
 -- the frontier of a kind moves on
 ordered_next : (n : Sizes) (nodes : ℕ → ℕ) (first : ℕ) (m : Word → ℕ) (v : ℕ → ℕ) (k : ℕ) → v k ≤ (range_of n k).last → AreOrdered n nodes first m v → AreOrdered n nodes first m (put v k (v k + 1))
-ordered_next n nodes first m v k le o = each_put (λ i x. i < length n.kinds → IsOrdered (range_of n i) i (nodes i) first m x) v k (v k + 1)
-    (λ lt. ordered_on (range_of n k) k (nodes k) first m (v k) le (o k lt)) (λ i ne lt. o i lt)
+ordered_next n nodes first m v k le o = each_put (λ i x. i < length n.kinds → IsOrdered n.tops (range_of n i) i (nodes i) first m x) v k (v k + 1)
+    (λ lt. ordered_on n.tops (range_of n k) k (nodes k) first m (v k) le (o k lt)) (λ i ne lt. o i lt)
 
 -- a slot that was claimed from a kind's chain is of the kind
 pub past_kind : (n : Sizes) (nodes : ℕ → ℕ) (first : ℕ) (m : Word → ℕ) (v : ℕ → ℕ) (k t : ℕ) → k < length n.kinds → AreOrdered n nodes first m v → IsPast (range_of n k) (v k) t → kind_of n t ≡ k
-past_kind n nodes first m v k t lt o past = in_range_is_of_kind n k t lt (past_slot (range_of n k) k (nodes k) first m (v k) t (o k lt) past)
+past_kind n nodes first m v k t lt o past = in_range_is_of_kind n k t lt (past_slot n.tops (range_of n k) k (nodes k) first m (v k) t (o k lt) past)
 
 -- and so it is below the frontier of its own
 past_below : (n : Sizes) (nodes : ℕ → ℕ) (first : ℕ) (m : Word → ℕ) (v : ℕ → ℕ) (k t : ℕ) → k < length n.kinds → AreOrdered n nodes first m v → IsPast (range_of n k) (v k) t → t < v (kind_of n t)
@@ -118,7 +120,7 @@ module _ (n : Sizes) (nodes : ℕ → ℕ) (first : ℕ) (m m' : Word → ℕ) (
   claimed_later j w =
       let k : ℕ = kind_of n j in
       let lt = kind_small n j are in
-      (past_later (range_at n j) k (nodes k) first m m' (v k) (v' k) (o k lt) j (moves k lt) w.0, w.1)
+      (past_later n.tops (range_at n j) k (nodes k) first m m' (v k) (v' k) (o k lt) j (moves k lt) w.0, w.1)
 
   sweep_later : (stage : SweepStage) → SweepFits n m v stage → SweepFits n m' v' stage
   sweep_later (sweeps.ReadStatus j) w = w
@@ -127,18 +129,18 @@ module _ (n : Sizes) (nodes : ℕ → ℕ) (first : ℕ) (m m' : Word → ℕ) (
   sweep_later (sweeps.PushLink j q t) w =
       let k : ℕ = kind_of n j in
       let lt = kind_small n j are in
-      (claimed_later j w.0, good_later (range_at n j) k (nodes k) first m m' (v k) (v' k) (o k lt) t (moves k lt) w.1)
+      (claimed_later j w.0, good_later n.tops (range_at n j) k (nodes k) first m m' (v k) (v' k) (o k lt) t (moves k lt) w.1)
   sweep_later (sweeps.PushTop i j q t) w =
       let k : ℕ = kind_of n j in
       let lt = kind_small n j are in
-      (claimed_later j w.0, w.1, near_later (range_at n j) k (nodes k) first m m' (v k) (v' k) (o k lt) j (moves k lt) (w.0.0.0, w.0.1) w.2)
+      (claimed_later j w.0, w.1, near_later n.tops (range_at n j) k (nodes k) first m m' (v k) (v' k) (o k lt) j (moves k lt) (w.0.0.0, w.0.1) w.2)
   sweep_later _ w = tt
 
   claim_later : (k : ℕ) (sweep : SweepStage) (stage : ClaimStage) → k < length n.kinds → ClaimFits n k m v sweep stage → ClaimFits n k m' v' sweep stage
   claim_later k sweep claims.ReadHead lt w = tt
-  claim_later k sweep (claims.ReadLink q t) lt w = (w.0, good_later (range_of n k) k (nodes k) first m m' (v k) (v' k) (o k lt) t (moves k lt) w.1)
-  claim_later k sweep (claims.Take q t next) lt w = look_later (range_of n k) k (nodes k) first m m' (v k) (v' k) (o k lt) t next (moves k lt) w
-  claim_later k sweep (claims.StoreUsed q t) lt w = past_later (range_of n k) k (nodes k) first m m' (v k) (v' k) (o k lt) t (moves k lt) w
+  claim_later k sweep (claims.ReadLink q t) lt w = (w.0, good_later n.tops (range_of n k) k (nodes k) first m m' (v k) (v' k) (o k lt) t (moves k lt) w.1)
+  claim_later k sweep (claims.Take q t next) lt w = look_later n.tops (range_of n k) k (nodes k) first m m' (v k) (v' k) (o k lt) t next (moves k lt) w
+  claim_later k sweep (claims.StoreUsed q t) lt w = past_later n.tops (range_of n k) k (nodes k) first m m' (v k) (v' k) (o k lt) t (moves k lt) w
   claim_later k sweep (claims.Withdraw own) lt w = tt
   claim_later k sweep claims.Sweeps lt w = sweep_later sweep w
 
@@ -151,7 +153,7 @@ module _ (n : Sizes) (nodes : ℕ → ℕ) (first : ℕ) (m m' : Word → ℕ) (
 
   pub fits_later : (standing : Standing) → Fits n m v standing → Fits n m' v' standing
   fits_later Elsewhere w = tt
-  fits_later (Claims claim) w = (w.0, claim_later claim.kind claim.sweep.stage claim.stage w.0 w.1)
+  fits_later (Claims claim) w = (w.0, claim_later claim.kind claim.sweep.stage claim.stage w.0 w.1, w.2)
   fits_later (Retires retirement) w = let up = frontier_up (kind_of n retirement.slot) (kind_small n retirement.slot are) in omega (arith, up, w)
 
 -- ---- sweeps
@@ -208,9 +210,9 @@ pub record SweepOpened (n : Sizes) (nodes : ℕ → ℕ) (first : ℕ) (m m' : W
 opened : (n : Sizes) (nodes : ℕ → ℕ) (first : ℕ) (m m' : Word → ℕ) (v : ℕ → ℕ) (sweep : Sweep) (end : Option SweepEnd) → Kept n nodes first m m' v → SweepOn n m' v sweep end → SweepOpened n nodes first m m' v sweep end
 opened n nodes first m m' v sweep end k on = record { words = k.0; stay = k.1; on = on }
 
-pub sweep_open : (n : Sizes) (last : ℕ) (nodes : ℕ → ℕ) (first : ℕ) (m : Word → ℕ) (v : ℕ → ℕ) (sweep : Sweep) (stage : SweepStage) → AreKinds n → n.slots ≤ 4096 → AreOrdered n nodes first m v → SweepFits n m v stage
-    → SweepOpened n nodes first m (after_access m (sweep_wants_at sweep.scheme stage sweep.bound)) v
-    (sweep_accepts_at n last sweep (m (word_of (sweep_wants_at sweep.scheme stage sweep.bound))) stage).sweep (sweep_accepts_at n last sweep (m (word_of (sweep_wants_at sweep.scheme stage sweep.bound))) stage).ended
+pub sweep_open : (n : Sizes) (last : ℕ) (nodes : ℕ → ℕ) (first : ℕ) (m : Word → ℕ) (v : ℕ → ℕ) (sweep : Sweep) (stage : SweepStage) → AreKinds n → n.slots < n.tops → AreOrdered n nodes first m v → SweepFits n m v stage
+    → SweepOpened n nodes first m (after_access m (sweep_wants_at n.tops sweep.scheme stage sweep.bound)) v
+    (sweep_accepts_at n last sweep (m (word_of (sweep_wants_at n.tops sweep.scheme stage sweep.bound))) stage).sweep (sweep_accepts_at n last sweep (m (word_of (sweep_wants_at n.tops sweep.scheme stage sweep.bound))) stage).ended
 sweep_open n last nodes first m v sweep sweeps.ReadPhase are most o w = opened n nodes first m (store m Phase (m Phase)) v (phase_read last sweep (m Phase)).sweep (phase_read last sweep (m Phase)).ended
     (ordered_same n nodes first m (store m Phase (m Phase)) v (same_loaded m Phase) o) (of (m Phase == last))
   where
@@ -250,24 +252,24 @@ sweep_open n last nodes first m v sweep (sweeps.MakeReady j q) are most o w = of
 sweep_open n last nodes first m v sweep (sweeps.PushHead i j) are most o w =
     let m' : Word → ℕ = store m (Head i) (m (Head i)) in
     let k = ordered_same n nodes first m m' v (same_loaded m (Head i)) o in
-    opened n nodes first m m' v (record sweep { stage = sweeps.PushLink j (head_parts (m (Head i))).phase (top m i) }) None k (w.0, loaded i w.1 k.1)
+    opened n nodes first m m' v (record sweep { stage = sweeps.PushLink j (head_parts n.tops (m (Head i))).phase (top n.tops m i) }) None k (w.0, loaded i w.1 k.1)
   where
     -- the top that was loaded is good, of the slot's kind
-    loaded : (i : ℕ) → i ≡ kind_of n j → AllStay n v m (store m (Head i) (m (Head i))) → IsGood (range_at n j) (store m (Head i) (m (Head i))) (v (kind_of n j)) (top m i)
+    loaded : (i : ℕ) → i ≡ kind_of n j → AllStay n v m (store m (Head i) (m (Head i))) → IsGood (range_at n j) (store m (Head i) (m (Head i))) (v (kind_of n j)) (top n.tops m i)
     loaded i is stay =
         let lt = kind_small n j are in
-        good_stays (range_at n j) (v (kind_of n j)) m (store m (Head i) (m (Head i))) (top m i) (stay (kind_of n j) lt)
-        (subst (λ (a : ℕ). IsGood (range_at n j) m (v (kind_of n j)) (top m a)) (sym is) (o (kind_of n j) lt).top_good)
+        good_stays (range_at n j) (v (kind_of n j)) m (store m (Head i) (m (Head i))) (top n.tops m i) (stay (kind_of n j) lt)
+        (subst (λ (a : ℕ). IsGood (range_at n j) m (v (kind_of n j)) (top n.tops m a)) (sym is) (o (kind_of n j) lt).top_good)
 sweep_open n last nodes first m v sweep (sweeps.PushLink j q t) are most o w =
     opened n nodes first m (store m (Link j) t) v (record sweep { stage = sweeps.PushTop (kind_of n j) j q t }) None (ordered_link n nodes first m v j t w.0.0 w.1 o)
     (w.0, refl, subst (λ (x : ℕ). IsNear (range_at n j) (v (kind_of n j)) x) (sym (link_here m j t)) w.1.0)
-sweep_open n last nodes first m v sweep (sweeps.PushTop i j q t) are most o w = of (m (Head i) == head_word q t) where
-  of : (b : Bool) → SweepOpened n nodes first m (store m (Head i) (if b then head_word (max q sweep.bound) j else m (Head i))) v
+sweep_open n last nodes first m v sweep (sweeps.PushTop i j q t) are most o w = of (m (Head i) == head_word n.tops q t) where
+  of : (b : Bool) → SweepOpened n nodes first m (store m (Head i) (if b then head_word n.tops (max q sweep.bound) j else m (Head i))) v
       (if b then sweep_on n sweep j else sweep_goes sweep (sweeps.PushHead (kind_of n j) j)).sweep (if b then sweep_on n sweep j else sweep_goes sweep (sweeps.PushHead (kind_of n j) j)).ended
-  of true = opened n nodes first m (store m (Head i) (head_word (max q sweep.bound) j)) v (sweep_on n sweep j).sweep (sweep_on n sweep j).ended
+  of true = opened n nodes first m (store m (Head i) (head_word n.tops (max q sweep.bound) j)) v (sweep_on n sweep j).sweep (sweep_on n sweep j).ended
       (ordered_top n nodes first m v i (max q sweep.bound) j are most
       (subst (λ (a : ℕ). IsGood (range_of n a) m (v a) j) (sym w.1) (near_past (range_at n j) (v (kind_of n j)) j w.0.0 w.0.1, (λ past. w.2))) o)
-      (on_next n (store m (Head i) (head_word (max q sweep.bound) j)) v sweep j (let within = w.0.1 in let last = last_within n (kind_of n j) are in omega (arith, within, last)))
+      (on_next n (store m (Head i) (head_word n.tops (max q sweep.bound) j)) v sweep j (let within = w.0.1 in let last = last_within n (kind_of n j) are in omega (arith, within, last)))
   of false = opened n nodes first m (store m (Head i) (m (Head i))) v (record sweep { stage = sweeps.PushHead (kind_of n j) j }) None (ordered_same n nodes first m (store m (Head i) (m (Head i))) v (same_loaded m (Head i)) o) (w.0, refl)
 
 -- ---- claims
@@ -304,15 +306,15 @@ look_next n m v claim q t lt good = of (t == 0) refl where
   of true is = look_ends n m v claim lt
   of false is = (lt, (near_some (range_of n claim.kind) (v claim.kind) t (grind (arith, nat_tests)) good.0, good))
 
-takes : (n : Sizes) (nodes : ℕ → ℕ) (first : ℕ) (m : Word → ℕ) (v : ℕ → ℕ) (count : ℕ) (claim : Claim) (q t next : ℕ) → AreKinds n → n.slots ≤ 4096 → claim.kind < length n.kinds → AreOrdered n nodes first m v
+takes : (n : Sizes) (nodes : ℕ → ℕ) (first : ℕ) (m : Word → ℕ) (v : ℕ → ℕ) (count : ℕ) (claim : Claim) (q t next : ℕ) → AreKinds n → n.slots < n.tops → claim.kind < length n.kinds → AreOrdered n nodes first m v
     → LookFits (range_of n claim.kind) m (v claim.kind) t next
-    → Opened n nodes first m (store m (Head claim.kind) (head_word q next)) v (if t == v claim.kind then put v claim.kind (v claim.kind + 1) else v) count (count + 1) (record claim { stage = claims.StoreUsed q t }) None
+    → Opened n nodes first m (store m (Head claim.kind) (head_word n.tops q next)) v (if t == v claim.kind then put v claim.kind (v claim.kind + 1) else v) count (count + 1) (record claim { stage = claims.StoreUsed q t }) None
 takes n nodes first m v count claim q t next are most lt o w = of (t == v claim.kind) refl where
   range : SlotRange
   range = range_of n claim.kind
 
   m' : Word → ℕ
-  m' = store m (Head claim.kind) (head_word q next)
+  m' = store m (Head claim.kind) (head_word n.tops q next)
 
   v' : ℕ → ℕ
   v' = put v claim.kind (v claim.kind + 1)
@@ -324,7 +326,7 @@ takes n nodes first m v count claim q t next are most lt o w = of (t == v claim.
   of true is =
       let same : t ≡ v claim.kind = grind (arith, nat_tests) in
       let le : v claim.kind ≤ range.last = (let within = near_inside range (v claim.kind) t w.1.0 in omega (arith, same, within)) in
-      let good : IsGood range m (v claim.kind + 1) next = subst (λ (x : ℕ). IsGood range m (v claim.kind + 1) x) (sym (w.3 same ∙ ap (slot_after range) same)) (good_after range claim.kind (nodes claim.kind) first m (v claim.kind) (o claim.kind lt)) in
+      let good : IsGood range m (v claim.kind + 1) next = subst (λ (x : ℕ). IsGood range m (v claim.kind + 1) x) (sym (w.3 same ∙ ap (slot_after range) same)) (good_after n.tops range claim.kind (nodes claim.kind) first m (v claim.kind) (o claim.kind lt)) in
       record {
         words = (ordered_top n nodes first m v' claim.kind q next are most (subst (λ (x : ℕ). IsGood range m x next) (sym here) good) (ordered_next n nodes first m v claim.kind le o)).0;
         moves = each_put (λ i x. i < length n.kinds → Moves (range_of n i) m m' (v i) x) v claim.kind (v claim.kind + 1) (λ less. inr (refl, le, (λ x. refl))) (λ i ne less. inl (refl, (λ j slot near. near)));
@@ -337,15 +339,15 @@ takes n nodes first m v count claim q t next are most lt o w = of (t == v claim.
       let k = ordered_top n nodes first m v claim.kind q next are most (w.2 less) o in
       record { words = k.0; moves = all_stay n m m' v k.1; counts = λ i. omega arith; on = (lt, (w.0, less)) }
 
-pub claim_open : (n : Sizes) (last : ℕ) (nodes : ℕ → ℕ) (first : ℕ) (m : Word → ℕ) (v : ℕ → ℕ) (count : ℕ) (claim : Claim) (stage : ClaimStage) → claim.stage ≡ stage → AreKinds n → n.slots ≤ 4096 → claim.kind < length n.kinds
+pub claim_open : (n : Sizes) (last : ℕ) (nodes : ℕ → ℕ) (first : ℕ) (m : Word → ℕ) (v : ℕ → ℕ) (count : ℕ) (claim : Claim) (stage : ClaimStage) → claim.stage ≡ stage → AreKinds n → n.slots < n.tops → claim.kind < length n.kinds
     → AreOrdered n nodes first m v → ClaimFits n claim.kind m v claim.sweep.stage stage
-    → Opened n nodes first m (after_access m (claim_wants_at claim.kind claim.sweep stage)) v (frontier_at claim.kind stage m v) count (claims_at claim.kind stage m count)
-    (claim_accepts_at n last claim (m (word_of (claim_wants_at claim.kind claim.sweep stage))) stage).claim (claim_accepts_at n last claim (m (word_of (claim_wants_at claim.kind claim.sweep stage))) stage).ended
+    → Opened n nodes first m (after_access m (claim_wants_at n.tops claim.kind claim.sweep stage)) v (frontier_at n.tops claim.kind stage m v) count (claims_at n.tops claim.kind stage m count)
+    (claim_accepts_at n last claim (m (word_of (claim_wants_at n.tops claim.kind claim.sweep stage))) stage).claim (claim_accepts_at n last claim (m (word_of (claim_wants_at n.tops claim.kind claim.sweep stage))) stage).ended
 claim_open n last nodes first m v count claim claims.ReadHead is are most lt o w =
     let m' : Word → ℕ = store m (Head claim.kind) (m (Head claim.kind)) in
     let k = ordered_same n nodes first m m' v (same_loaded m (Head claim.kind)) o in
-    stays n nodes first m m' v count (look_begun claim (head_parts (m (Head claim.kind)))).claim (look_begun claim (head_parts (m (Head claim.kind)))).ended k
-    (look_next n m' v claim (head_parts (m (Head claim.kind))).phase (top m claim.kind) lt (good_stays (range_of n claim.kind) (v claim.kind) m m' (top m claim.kind) (k.1 claim.kind lt) (o claim.kind lt).top_good))
+    stays n nodes first m m' v count (look_begun claim (head_parts n.tops (m (Head claim.kind)))).claim (look_begun claim (head_parts n.tops (m (Head claim.kind)))).ended k
+    (look_next n m' v claim (head_parts n.tops (m (Head claim.kind))).phase (top n.tops m claim.kind) lt (good_stays (range_of n claim.kind) (v claim.kind) m m' (top n.tops m claim.kind) (k.1 claim.kind lt) (o claim.kind lt).top_good))
 claim_open n last nodes first m v count claim (claims.ReadLink q t) is are most lt o w =
     let m' : Word → ℕ = store m (Link t) (m (Link t)) in
     let range : SlotRange = range_of n claim.kind in
@@ -361,8 +363,8 @@ claim_open n last nodes first m v count claim (claims.ReadLink q t) is are most 
         (λ same. (o claim.kind lt).link_first t (omega (arith, same)) (near_inside range front t w.1.0)),
       ),
     )
-claim_open n last nodes first m v count claim (claims.Take q t next) is are most lt o w = of (m (Head claim.kind) == head_word q t) where
-  of : (b : Bool) → Opened n nodes first m (store m (Head claim.kind) (if b then head_word q next else m (Head claim.kind))) v (if b then (if t == v claim.kind then put v claim.kind (v claim.kind + 1) else v) else v) count (if b then count + 1 else count)
+claim_open n last nodes first m v count claim (claims.Take q t next) is are most lt o w = of (m (Head claim.kind) == head_word n.tops q t) where
+  of : (b : Bool) → Opened n nodes first m (store m (Head claim.kind) (if b then head_word n.tops q next else m (Head claim.kind))) v (if b then (if t == v claim.kind then put v claim.kind (v claim.kind + 1) else v) else v) count (if b then count + 1 else count)
       (if b then claim_goes claim (claims.StoreUsed q t) else claim_goes claim claims.ReadHead).claim (if b then claim_goes claim (claims.StoreUsed q t) else claim_goes claim claims.ReadHead).ended
   of true = takes n nodes first m v count claim q t next are most lt o w
   of false = stays n nodes first m (store m (Head claim.kind) (m (Head claim.kind))) v count (record claim { stage = claims.ReadHead }) None (ordered_same n nodes first m (store m (Head claim.kind) (m (Head claim.kind))) v (same_loaded m (Head claim.kind)) o) (lt, tt)
@@ -371,7 +373,7 @@ claim_open n last nodes first m v count claim (claims.StoreUsed q t) is are most
 claim_open n last nodes first m v count claim (claims.Withdraw own) is are most lt o w =
     stays n nodes first m (store m (Warning own) 0) v count (sweep_started claim).claim None (ordered_same n nodes first m (store m (Warning own) 0) v (same_written m (Warning own) 0 refl) o) (lt, tt)
 claim_open n last nodes first m v count claim claims.Sweeps is are most lt o w =
-    let a : WordAccess = sweep_wants_at claim.sweep.scheme claim.sweep.stage claim.sweep.bound in
+    let a : WordAccess = sweep_wants_at n.tops claim.sweep.scheme claim.sweep.stage claim.sweep.bound in
     let turn = sweep_accepts_at n last claim.sweep (m (word_of a)) claim.sweep.stage in
     let m' : Word → ℕ = after_access m a in
     let kept = sweep_open n last nodes first m v claim.sweep claim.sweep.stage are most o w in
@@ -395,9 +397,9 @@ pub tested : (b : Bool) (o : Option OpenState) (later : OpenState) → (if b the
 tested true o later is = (refl, is)
 tested false o later is = absurd (let z : None ≡ Some later = is in cc)
 
-claim_stands : (n : Sizes) (m : Word → ℕ) (v : ℕ → ℕ) (claim : Claim) (end : Option ClaimEnd) → ClaimOn n m v claim end → Fits n m v (claim_left claim end)
-claim_stands n m v claim None on = on
-claim_stands n m v claim (Some end) on = tt
+claim_stands : (n : Sizes) (m : Word → ℕ) (v : ℕ → ℕ) (claim : Claim) (end : Option ClaimEnd) → claim.sweep.tops ≡ n.tops → ClaimOn n m v claim end → Fits n m v (claim_left claim end)
+claim_stands n m v claim None tops on = (on.0, on.1, tops)
+claim_stands n m v claim (Some end) tops on = tt
 
 -- a retirement below the frontier of the slot's kind
 pub retire_open : (n : Sizes) (nodes : ℕ → ℕ) (first : ℕ) (m : Word → ℕ) (v : ℕ → ℕ) (j : ℕ) (stage : RetireStage) → j < v (kind_of n j) → AreOrdered n nodes first m v
@@ -406,20 +408,36 @@ pub retire_open : (n : Sizes) (nodes : ℕ → ℕ) (first : ℕ) (m : Word → 
 retire_open n nodes first m v j retires.ReadPhase lt o = (ordered_same n nodes first m (store m Phase (m Phase)) v (same_loaded m Phase) o, lt)
 retire_open n nodes first m v j (retires.StoreStatus p) lt o = (ordered_status n nodes first m v j (status_word p kinds.Retired) lt o, tt)
 
-module _ (n : Sizes) (last : ℕ) (start : Beginning) (are : AreKinds n) (most : n.slots ≤ 4096) where
+-- with the access that the claim wants, if its heads are those of the row
+pub claim_opens : (n : Sizes) (last : ℕ) (nodes : ℕ → ℕ) (first : ℕ) (m : Word → ℕ) (v : ℕ → ℕ) (count : ℕ) (claim : Claim) → claim.sweep.tops ≡ n.tops → AreKinds n → n.slots < n.tops
+    → claim.kind < length n.kinds → AreOrdered n nodes first m v → ClaimFits n claim.kind m v claim.sweep.stage claim.stage
+    → Opened n nodes first m (after_access m (claim_wants claim)) v (frontier_at n.tops claim.kind claim.stage m v) count (claims_at n.tops claim.kind claim.stage m count)
+    (claim_accepts n last claim (m (word_of (claim_wants claim)))).claim (claim_accepts n last claim (m (word_of (claim_wants claim)))).ended
+claim_opens n last nodes first m v count claim same are most lt o w =
+    subst (λ (tops : ℕ). At tops) (sym same) (claim_open n last nodes first m v count claim claim.stage refl are most lt o w)
+  where
+    At : ℕ → Type 0
+    At tops =
+        let a = claim_wants_at tops claim.kind claim.sweep claim.stage in
+        let turn = claim_accepts n last claim (m (word_of a)) in
+        Opened n nodes first m (after_access m a) v (frontier_at n.tops claim.kind claim.stage m v) count (claims_at n.tops claim.kind claim.stage m count) turn.claim turn.ended
+
+module _ (n : Sizes) (last : ℕ) (start : Beginning) (are : AreKinds n) (most : n.slots < n.tops) where
   step_open : (state later : OpenState) (c : ℕ) (standing : Standing) → state.who c ≡ standing → OpenHolds n start state → open_stepped n last state c standing ≡ Some later → OpenHolds n start later
   step_open state later c Elsewhere at w is = absurd (let z : None ≡ Some later = is in cc)
   step_open state later c (Claims claim) at w is =
       let told : Fits n state.memory state.frontier (Claims claim) = subst (λ (x : Standing). Fits n state.memory state.frontier x) at (w.fits c) in
-      let k = claim_open n last (nodes_of start) start.first state.memory state.frontier state.claims claim claim.stage refl are most told.0 w.words told.1 in
-      let turn = claim_accepts n last claim (state.memory (word_of (claim_wants claim))) in
+      let k = claim_opens n last (nodes_of start) start.first state.memory state.frontier state.claims claim told.2 are most told.0 w.words told.1 in
+      let word = state.memory (word_of (claim_wants claim)) in
+      let turn = claim_accepts n last claim word in
       let m' : Word → ℕ = after_access state.memory (claim_wants claim) in
-      let v' : ℕ → ℕ = frontier_at claim.kind claim.stage state.memory state.frontier in
+      let v' : ℕ → ℕ = frontier_at n.tops claim.kind claim.stage state.memory state.frontier in
+      let same = (claim_stays n last claim word).tops ∙ told.2 in
       subst (λ (x : OpenState). OpenHolds n start x)
-      (some_state (record { memory = m'; frontier = v'; claims = claims_at claim.kind claim.stage state.memory state.claims; who = put state.who c (claim_left turn.claim turn.ended) }) later is)
+      (some_state (record { memory = m'; frontier = v'; claims = claims_at n.tops claim.kind claim.stage state.memory state.claims; who = put state.who c (claim_left turn.claim turn.ended) }) later is)
       (record {
         words = k.words;
-        fits = each_put (λ d (x : Standing). Fits n m' v' x) state.who c (claim_left turn.claim turn.ended) (claim_stands n m' v' turn.claim turn.ended k.on)
+        fits = each_put (λ d (x : Standing). Fits n m' v' x) state.who c (claim_left turn.claim turn.ended) (claim_stands n m' v' turn.claim turn.ended same k.on)
             (λ d ne. fits_later n (nodes_of start) start.first state.memory m' state.frontier v' are w.words k.moves (state.who d) (w.fits d));
         counted = λ i. (let old = w.counted i in let more = k.counts i in omega (arith, old, more));
       })
@@ -449,7 +467,7 @@ module _ (n : Sizes) (last : ℕ) (start : Beginning) (are : AreKinds n) (most :
   event_open state later (BeginsClaim c k scheme) w is =
       let begin : OpenState = record state { who = put state.who c (Claims (claim_begun n k scheme)) } in
       let test = tested (nat_lt k (length n.kinds)) (open_begins (state.who c) begin) later is in
-      subst (λ (x : OpenState). OpenHolds n start x) (begun (state.who c) begin later test.1) (begin_open state c (Claims (claim_begun n k scheme)) w ((let less = test.0 in grind (arith, nat_tests)), tt))
+      subst (λ (x : OpenState). OpenHolds n start x) (begun (state.who c) begin later test.1) (begin_open state c (Claims (claim_begun n k scheme)) w ((let less = test.0 in grind (arith, nat_tests)), tt, refl))
   event_open state later (BeginsRetirement c j) w is =
       let begin : OpenState = record state { who = put state.who c (Retires (retire_begun j)) } in
       let test = tested (nat_lt j (state.frontier (kind_of n j))) (open_begins (state.who c) begin) later is in
@@ -470,7 +488,7 @@ pub split : (o : Option OpenState) (next : OpenState → Option OpenState) (late
 split None next later is = absurd (let z : None ≡ Some later = is in cc)
 split (Some state) next later is = (state, refl, is)
 
-run_open : (n : Sizes) (last : ℕ) (start : Beginning) (events : List PoolEvent) (state later : OpenState) → AreKinds n → n.slots ≤ 4096 → OpenHolds n start state → open_run n last events state ≡ Some later → OpenHolds n start later
+run_open : (n : Sizes) (last : ℕ) (start : Beginning) (events : List PoolEvent) (state later : OpenState) → AreKinds n → n.slots < n.tops → OpenHolds n start state → open_run n last events state ≡ Some later → OpenHolds n start later
 run_open n last start [] state later are most w is = subst (λ (x : OpenState). OpenHolds n start x) (some_state state later is) w
 run_open n last start (event ∷ events) state later are most w is =
     let parts = split (open_event n last state event) (open_run n last events) later is in
@@ -479,12 +497,12 @@ run_open n last start (event ∷ events) state later are most w is =
 -- ---- the start, and the law
 
 -- the words in the row are the same
-ordered_row : (range : SlotRange) (k nodes first : ℕ) (m m' : Word → ℕ) (v : ℕ) → m' (Head k) ≡ m (Head k) → ((j : ℕ) → j ≤ range.last → m' (Link j) ≡ m (Link j)) → ((j : ℕ) → j ≤ range.last → m' (Status j) ≡ m (Status j))
-    → IsOrdered range k nodes first m v → IsOrdered range k nodes first m' v
-ordered_row range k nodes first m m' v head link status o =
-    (ordered_with range k nodes first m m' v o (top_kept range k nodes first m m' v head o) (λ j slot. inl (link j slot.1)) (λ j slot. inl (status j slot.1))).0
+ordered_row : (tops : ℕ) (range : SlotRange) (k nodes first : ℕ) (m m' : Word → ℕ) (v : ℕ) → m' (Head k) ≡ m (Head k) → ((j : ℕ) → j ≤ range.last → m' (Link j) ≡ m (Link j)) → ((j : ℕ) → j ≤ range.last → m' (Status j) ≡ m (Status j))
+    → IsOrdered tops range k nodes first m v → IsOrdered tops range k nodes first m' v
+ordered_row tops range k nodes first m m' v head link status o =
+    (ordered_with tops range k nodes first m m' v o (top_kept tops range k nodes first m m' v head o) (λ j slot. inl (link j slot.1)) (λ j slot. inl (status j slot.1))).0
 
-module _ (n : Sizes) (start : Beginning) (are : AreKinds n) (most : n.slots ≤ 4096) (fit : NodesFit n start) where
+module _ (n : Sizes) (start : Beginning) (are : AreKinds n) (most : n.slots < n.tops) (fit : NodesFit n start) where
   -- one kind's words at the start
   module _ (k : ℕ) (lt : k < length n.kinds) where
     -- a slot of the range is of the kind
@@ -505,11 +523,11 @@ module _ (n : Sizes) (start : Beginning) (are : AreKinds n) (most : n.slots ≤ 
     link_at : (j : ℕ) → IsSlot (range_of n k) j → start_word n start (Link j) ≡ start_link (range_of n k) (nodes_of start k) j
     link_at j slot = ap (λ (a : ℕ). start_link (range_of n a) (nodes_of start a) j) (of_it j slot)
 
-    start_ordered : IsOrdered (range_of n k) k (nodes_of start k) start.first (start_word n start) (first_ready (range_of n k) (nodes_of start k))
+    start_ordered : IsOrdered n.tops (range_of n k) k (nodes_of start k) start.first (start_word n start) (first_ready (range_of n k) (nodes_of start k))
     start_ordered =
         let range : SlotRange = range_of n k in
         let nodes : ℕ = nodes_of start k in
-        let parts = tells (start_word n start) k start.first (start_top range nodes) refl (slot_small range (first_ready range nodes) (let last = last_within n k are in omega (arith, last, most))) in
+        let parts = tells n.tops (start_word n start) k start.first (start_top range nodes) refl (slot_small n.tops range (first_ready range nodes) (let last = last_within n k are in omega (arith, last, most))) in
         record {
           above_null = omega arith;
           least = omega arith;
@@ -521,9 +539,9 @@ module _ (n : Sizes) (start : Beginning) (are : AreKinds n) (most : n.slots ≤ 
               ap (λ (a : ℕ). status_word start.first (start_kind (range_of n a) (nodes_of start a) j)) (of_it j ((let low = ge in omega (arith, low)), within)) ∙ ready_start range start.first nodes j ge;
         }
 
-pub start_open : (n : Sizes) (start : Beginning) (memory : Word → ℕ) → AreKinds n → n.slots ≤ 4096 → NodesFit n start → StartsAs n start memory → OpenHolds n start (open_start n start memory)
+pub start_open : (n : Sizes) (start : Beginning) (memory : Word → ℕ) → AreKinds n → n.slots < n.tops → NodesFit n start → StartsAs n start memory → OpenHolds n start (open_start n start memory)
 start_open n start memory are most fit starts = record {
-  words = λ k lt. ordered_row (range_of n k) k (nodes_of start k) start.first (start_word n start) memory (first_ready (range_of n k) (nodes_of start k)) (starts (Head k) (row_heads (length n.kinds) k lt))
+  words = λ k lt. ordered_row n.tops (range_of n k) k (nodes_of start k) start.first (start_word n start) memory (first_ready (range_of n k) (nodes_of start k)) (starts (Head k) (row_heads (length n.kinds) k lt))
       (λ j within. starts (Link j) (row_has n.slots j (inside k j within))) (λ j within. starts (Status j) (row_has n.slots j (inside k j within))) (start_ordered n start are most fit k lt);
   fits = λ c. tt;
   counted = λ k. omega arith;
@@ -556,7 +574,7 @@ claims_stay_ordered n last start are most fit memory starts events state is =
     let w = run_open n last start events (open_start n start memory) state are most (start_open n start memory are most fit starts) is in
     record {
       full = λ k lt none. (let words = w.words k lt in
-          let past = near_none (range_of n k) (state.frontier k) (top state.memory k) words.above_null none words.top_good.0 in let count = w.counted k in omega (arith, past, count));
+          let past = near_none (range_of n k) (state.frontier k) (top n.tops state.memory k) words.above_null none words.top_good.0 in let count = w.counted k in omega (arith, past, count));
       ready = λ j ge within. (let words = w.words (kind_of n j) (kind_small n j are) in let low = words.least in
           words.status_first j ge (of_kind_is_in_range n j are (omega (arith, low, ge)) within).1);
       unclaimed = λ c. slot_below n (nodes_of start) start.first state.memory state.frontier are w.words (state.who c) (w.fits c);

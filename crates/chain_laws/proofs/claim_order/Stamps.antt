@@ -7,7 +7,8 @@ use Rattle.oa_words.specs.declared.packed.Kind.TheVariants as kinds
 use Rattle.oa_words.specs.Words.{Word, Phase, Warning, Hazard, Status, Head, Link, Sizes, slot_range, IsSlot}
 use Rattle.oa_words.specs.SlotKinds.{range_of, kind_of, range_at, IsNullOrOf}
 use Rattle.oa_words.specs.Within.{AreKinds}
-use Rattle.oa_words.specs.Packed.{StatusParts, status_word, status_parts, head_word, head_parts}
+use Rattle.oa_words.specs.Packed.{StatusParts, status_word, status_parts, HeadParts, head_word, head_parts}
+use Rattle.oa_words.proofs.Parts.{head_back}
 use Rattle.oa_words.specs.Starts.{Beginning, nodes_of, first_ready, slot_or_none, slot_after, link_at_start, start_top}
 use Rattle.oa_words.proofs.KindRanges.{kind_small, in_range_is_of_kind, range_is_within}
 use Rattle.phase_pools.specs.declared.access.ClaimEnd.{ClaimEnd}
@@ -41,8 +42,8 @@ use Rattle.chain_laws.proofs.claim_order.Frontier.{some_state, begun, tested, sp
 
 -- ---- null, or a slot of a kind
 
-null_or_small : (n : Sizes) (k x : ℕ) → n.slots ≤ 4096 → IsNullOrOf n k x → x < 8192
-null_or_small n k x most (inl none) = omega (arith, none)
+null_or_small : (n : Sizes) (k x : ℕ) → n.slots < n.tops → IsNullOrOf n k x → x < n.tops
+null_or_small n k x most (inl none) = omega (arith, none, most)
 null_or_small n k x most (inr some) = let within = some.1 in omega (arith, within, most)
 
 in_range : (n : Sizes) (k x : ℕ) → AreKinds n → k < length n.kinds → IsSlot (range_of n k) x → IsNullOrOf n k x
@@ -69,8 +70,8 @@ pub record Within (n : Sizes) (m m' : Word → ℕ) (On : ℕ → Type 0) : Type
 
 pub words_same : (n : Sizes) (m m' : Word → ℕ) → Same m m' → WordsWithin n m → WordsWithin n m'
 words_same n m m' same w = record {
-  stamped = λ k lt. (let is = ap (λ (x : ℕ). (head_parts x).phase) (same.head k) in let old = w.stamped k lt in let up = same.phase in omega (arith, is, old, up));
-  topped = λ k lt. subst (λ (x : ℕ). IsNullOrOf n k (head_parts x).top) (sym (same.head k)) (w.topped k lt);
+  stamped = λ k lt. (let is = ap (λ (x : ℕ). (head_parts n.tops x).phase) (same.head k) in let old = w.stamped k lt in let up = same.phase in omega (arith, is, old, up));
+  topped = λ k lt. subst (λ (x : ℕ). IsNullOrOf n k (head_parts n.tops x).top) (sym (same.head k)) (w.topped k lt);
   linked = λ j within. subst (IsNullOrOf n (kind_of n j)) (sym (same.link j)) (w.linked j within);
 }
 
@@ -90,16 +91,16 @@ ClaimStores n k stage claims.Sweeps = SweepStores n stage
 ClaimStores n k stage _ = Unit {0}
 
 -- a head is exchanged
-within_head : (n : Sizes) (m : Word → ℕ) (k q t : ℕ) (On : ℕ → Type 0) → n.slots ≤ 4096 → WordsWithin n m → q ≤ m Phase → IsNullOrOf n k t → On (m Phase) → Within n m (store m (Head k) (head_word q t)) On
+within_head : (n : Sizes) (m : Word → ℕ) (k q t : ℕ) (On : ℕ → Type 0) → n.slots < n.tops → WordsWithin n m → q ≤ m Phase → IsNullOrOf n k t → On (m Phase) → Within n m (store m (Head k) (head_word n.tops q t)) On
 within_head n m k q t On most w below is on =
     let small = null_or_small n k t most is in
-    let phase : (head_parts (head_word q t)).phase ≡ q = omega (arith, small) in
-    let top_is : (head_parts (head_word q t)).top ≡ t = omega (arith, small) in
+    let phase : (head_parts n.tops (head_word n.tops q t)).phase ≡ q = ap (λ (p : HeadParts). p.phase) (head_back n.tops q t small) in
+    let top_is : (head_parts n.tops (head_word n.tops q t)).top ≡ t = ap (λ (p : HeadParts). p.top) (head_back n.tops q t small) in
     record {
       up = omega arith;
       words = record {
-        stamped = each_head (λ i x. i < length n.kinds → (head_parts x).phase ≤ m Phase) m k (head_word q t) (λ lt. omega (arith, phase, below)) (λ i ne lt. w.stamped i lt);
-        topped = each_head (λ i x. i < length n.kinds → IsNullOrOf n i (head_parts x).top) m k (head_word q t) (λ lt. subst (IsNullOrOf n k) (sym top_is) is) (λ i ne lt. w.topped i lt);
+        stamped = each_head (λ i x. i < length n.kinds → (head_parts n.tops x).phase ≤ m Phase) m k (head_word n.tops q t) (λ lt. omega (arith, phase, below)) (λ i ne lt. w.stamped i lt);
+        topped = each_head (λ i x. i < length n.kinds → IsNullOrOf n i (head_parts n.tops x).top) m k (head_word n.tops q t) (λ lt. subst (IsNullOrOf n k) (sym top_is) is) (λ i ne lt. w.topped i lt);
         linked = w.linked;
       };
       on = on;
@@ -133,9 +134,9 @@ warn_on n phase s d scheme up = of (nat_lt (d + 1) n.callers) where
   of true = up
   of false = all scheme
 
-pub sweep_within : (n : Sizes) (last : ℕ) (m : Word → ℕ) (sweep : Sweep) (stage : SweepStage) → AreKinds n → n.slots ≤ 4096 → WordsWithin n m → SweepStores n stage → SweepBelow (m Phase) sweep.bound stage
-    → Within n m (after_access m (sweep_wants_at sweep.scheme stage sweep.bound))
-    (SweepOn (sweep_accepts_at n last sweep (m (word_of (sweep_wants_at sweep.scheme stage sweep.bound))) stage).sweep (sweep_accepts_at n last sweep (m (word_of (sweep_wants_at sweep.scheme stage sweep.bound))) stage).ended)
+pub sweep_within : (n : Sizes) (last : ℕ) (m : Word → ℕ) (sweep : Sweep) (stage : SweepStage) → AreKinds n → n.slots < n.tops → WordsWithin n m → SweepStores n stage → SweepBelow (m Phase) sweep.bound stage
+    → Within n m (after_access m (sweep_wants_at n.tops sweep.scheme stage sweep.bound))
+    (SweepOn (sweep_accepts_at n last sweep (m (word_of (sweep_wants_at n.tops sweep.scheme stage sweep.bound))) stage).sweep (sweep_accepts_at n last sweep (m (word_of (sweep_wants_at n.tops sweep.scheme stage sweep.bound))) stage).ended)
 sweep_within n last m sweep sweeps.ReadPhase are most w fits below = within_same n m (store m Phase (m Phase)) _ (same_loaded m Phase) w (of (m Phase == last)) where
   of : (b : Bool) → SweepOn (if b then sweep_ends sweep (swept.PhasesOver (m Phase)) else sweep_goes sweep (sweeps.RaisePhase (m Phase))).sweep (if b then sweep_ends sweep (swept.PhasesOver (m Phase)) else sweep_goes sweep (sweeps.RaisePhase (m Phase))).ended (m Phase)
   of true = tt
@@ -172,8 +173,8 @@ sweep_within n last m sweep (sweeps.PushLink j q t) are most w fits below = reco
   };
   on = below;
 }
-sweep_within n last m sweep (sweeps.PushTop k j q t) are most w fits below = of (m (Head k) == head_word q t) where
-  of : (b : Bool) → Within n m (store m (Head k) (if b then head_word (max q sweep.bound) j else m (Head k)))
+sweep_within n last m sweep (sweeps.PushTop k j q t) are most w fits below = of (m (Head k) == head_word n.tops q t) where
+  of : (b : Bool) → Within n m (store m (Head k) (if b then head_word n.tops (max q sweep.bound) j else m (Head k)))
       (SweepOn (if b then sweep_on n sweep j else sweep_goes sweep (sweeps.PushHead (kind_of n j) j)).sweep (if b then sweep_on n sweep j else sweep_goes sweep (sweeps.PushHead (kind_of n j) j)).ended)
   of true = within_head n m k (max q sweep.bound) j _ most w (let s = below.0 in let p = below.1 in omega (arith, s, p)) (inr (fits.1.0, fits.1.1, sym fits.0)) (on_next n (m Phase) sweep j below.0)
   of false = within_same n m (store m (Head k) (m (Head k))) _ (same_loaded m (Head k)) w below.0
@@ -200,21 +201,21 @@ look_next phase claim q t below = of (t == 0) where
   of true = look_ends phase claim
   of false = below
 
-pub claim_within : (n : Sizes) (last : ℕ) (m : Word → ℕ) (claim : Claim) (stage : ClaimStage) → claim.stage ≡ stage → AreKinds n → n.slots ≤ 4096 → claim.kind < length n.kinds → WordsWithin n m → ClaimStores n claim.kind claim.sweep.stage stage
-    → ClaimBelow (m Phase) claim.sweep stage → Within n m (after_access m (claim_wants_at claim.kind claim.sweep stage))
-    (ClaimOn (claim_accepts_at n last claim (m (word_of (claim_wants_at claim.kind claim.sweep stage))) stage).claim (claim_accepts_at n last claim (m (word_of (claim_wants_at claim.kind claim.sweep stage))) stage).ended)
+pub claim_within : (n : Sizes) (last : ℕ) (m : Word → ℕ) (claim : Claim) (stage : ClaimStage) → claim.stage ≡ stage → AreKinds n → n.slots < n.tops → claim.kind < length n.kinds → WordsWithin n m → ClaimStores n claim.kind claim.sweep.stage stage
+    → ClaimBelow (m Phase) claim.sweep stage → Within n m (after_access m (claim_wants_at n.tops claim.kind claim.sweep stage))
+    (ClaimOn (claim_accepts_at n last claim (m (word_of (claim_wants_at n.tops claim.kind claim.sweep stage))) stage).claim (claim_accepts_at n last claim (m (word_of (claim_wants_at n.tops claim.kind claim.sweep stage))) stage).ended)
 claim_within n last m claim claims.ReadHead is are most lt w fits below =
-    within_same n m (store m (Head claim.kind) (m (Head claim.kind))) _ (same_loaded m (Head claim.kind)) w (look_next (m Phase) claim (stamp m claim.kind) (top m claim.kind) (w.stamped claim.kind lt))
+    within_same n m (store m (Head claim.kind) (m (Head claim.kind))) _ (same_loaded m (Head claim.kind)) w (look_next (m Phase) claim (stamp n.tops m claim.kind) (top n.tops m claim.kind) (w.stamped claim.kind lt))
 claim_within n last m claim (claims.ReadLink q t) is are most lt w fits below = within_same n m (store m (Link t) (m (Link t))) _ (same_loaded m (Link t)) w below
-claim_within n last m claim (claims.Take q t next) is are most lt w fits below = of (m (Head claim.kind) == head_word q t) where
-  of : (b : Bool) → Within n m (store m (Head claim.kind) (if b then head_word q next else m (Head claim.kind)))
+claim_within n last m claim (claims.Take q t next) is are most lt w fits below = of (m (Head claim.kind) == head_word n.tops q t) where
+  of : (b : Bool) → Within n m (store m (Head claim.kind) (if b then head_word n.tops q next else m (Head claim.kind)))
       (ClaimOn (if b then claim_goes claim (claims.StoreUsed q t) else claim_goes claim claims.ReadHead).claim (if b then claim_goes claim (claims.StoreUsed q t) else claim_goes claim claims.ReadHead).ended)
   of true = within_head n m claim.kind q next _ most w below fits below
   of false = within_same n m (store m (Head claim.kind) (m (Head claim.kind))) _ (same_loaded m (Head claim.kind)) w tt
 claim_within n last m claim (claims.StoreUsed q t) is are most lt w fits below = record { up = omega arith; words = record { stamped = w.stamped; topped = w.topped; linked = w.linked }; on = tt }
 claim_within n last m claim (claims.Withdraw own) is are most lt w fits below = within_same n m (store m (Warning own) 0) _ (same_written m (Warning own) 0 refl) w tt
 claim_within n last m claim claims.Sweeps is are most lt w fits below =
-    let a : WordAccess = sweep_wants_at claim.sweep.scheme claim.sweep.stage claim.sweep.bound in
+    let a : WordAccess = sweep_wants_at n.tops claim.sweep.scheme claim.sweep.stage claim.sweep.bound in
     let turn = sweep_accepts_at n last claim.sweep (m (word_of a)) claim.sweep.stage in
     let k = sweep_within n last m claim.sweep claim.sweep.stage are most w fits below in
     record { up = k.up; words = k.words; on = goes_on (after_access m a Phase) turn.sweep turn.ended k.on }
@@ -223,6 +224,18 @@ claim_within n last m claim claims.Sweeps is are most lt w fits below =
     goes_on phase sweep None on = subst (λ (stage : ClaimStage). ClaimBelow phase sweep stage) (sym is) on
     goes_on phase sweep (Some swept.Swept) on = tt
     goes_on phase sweep (Some (swept.PhasesOver p)) on = tt
+
+-- with the access that the claim wants, if its heads are those of the row
+pub claim_keeps : (n : Sizes) (last : ℕ) (m : Word → ℕ) (claim : Claim) → claim.sweep.tops ≡ n.tops → AreKinds n → n.slots < n.tops → claim.kind < length n.kinds → WordsWithin n m
+    → ClaimStores n claim.kind claim.sweep.stage claim.stage → ClaimBelow (m Phase) claim.sweep claim.stage
+    → Within n m (after_access m (claim_wants claim))
+    (ClaimOn (claim_accepts n last claim (m (word_of (claim_wants claim)))).claim (claim_accepts n last claim (m (word_of (claim_wants claim)))).ended)
+claim_keeps n last m claim same are most lt w fits below = subst (λ (tops : ℕ). At tops) (sym same) (claim_within n last m claim claim.stage refl are most lt w fits below) where
+  At : ℕ → Type 0
+  At tops =
+      let a = claim_wants_at tops claim.kind claim.sweep claim.stage in
+      let turn = claim_accepts n last claim (m (word_of a)) in
+      Within n m (after_access m a) (ClaimOn turn.claim turn.ended)
 
 -- ---- the others, if the phase rises
 
@@ -284,17 +297,17 @@ retire_within n m j (retires.StoreStatus p) w = (record { stamped = w.stamped; t
 abbrev Both : Sizes → OpenState → Type 0
 Both n state = WordsWithin n state.memory × ((c : ℕ) → Below (state.memory Phase) (state.who c))
 
-module _ (n : Sizes) (last : ℕ) (start : Beginning) (are : AreKinds n) (most : n.slots ≤ 4096) where
+module _ (n : Sizes) (last : ℕ) (start : Beginning) (are : AreKinds n) (most : n.slots < n.tops) where
   step_both : (state later : OpenState) (c : ℕ) (standing : Standing) → state.who c ≡ standing → StampsHold n start state → open_stepped n last state c standing ≡ Some later → Both n later
   step_both state later c Elsewhere at w is = absurd (let z : None ≡ Some later = is in cc)
   step_both state later c (Claims claim) at w is =
       let fits : Fits n state.memory state.frontier (Claims claim) = subst (λ (x : Standing). Fits n state.memory state.frontier x) at (w.open_holds.fits c) in
       let below : Below (state.memory Phase) (Claims claim) = subst (λ (x : Standing). Below (state.memory Phase) x) at (w.below c) in
-      let k = claim_within n last state.memory claim claim.stage refl are most fits.0 w.words (fits_stores n state.memory state.frontier claim claim.stage are fits.0 fits.1) below in
+      let k = claim_keeps n last state.memory claim fits.2 are most fits.0 w.words (fits_stores n state.memory state.frontier claim claim.stage are fits.0 fits.1) below in
       let turn = claim_accepts n last claim (state.memory (word_of (claim_wants claim))) in
       let m' : Word → ℕ = after_access state.memory (claim_wants claim) in
       subst (λ (x : OpenState). Both n x)
-      (some_state (record { memory = m'; frontier = frontier_at claim.kind claim.stage state.memory state.frontier; claims = claims_at claim.kind claim.stage state.memory state.claims; who = put state.who c (claim_left turn.claim turn.ended) }) later is)
+      (some_state (record { memory = m'; frontier = frontier_at n.tops claim.kind claim.stage state.memory state.frontier; claims = claims_at n.tops claim.kind claim.stage state.memory state.claims; who = put state.who c (claim_left turn.claim turn.ended) }) later is)
       (k.words, each_put (λ d (x : Standing). Below (m' Phase) x) state.who c (claim_left turn.claim turn.ended) (claim_stands (m' Phase) turn.claim turn.ended k.on) (λ d ne. below_up (state.memory Phase) (m' Phase) (state.who d) k.up (w.below d)))
   step_both state later c (Retires retirement) at w is =
       let m' : Word → ℕ = after_access state.memory (retire_wants retirement) in
@@ -320,7 +333,7 @@ module _ (n : Sizes) (last : ℕ) (start : Beginning) (are : AreKinds n) (most :
       subst (λ (y : OpenState). Both n y) (some_state (record state { memory = store state.memory word x }) later test.1)
       (words_same n state.memory (store state.memory word x) same w.words, (λ d. below_up (state.memory Phase) (store state.memory word x Phase) (state.who d) same.phase (w.below d)))
 
-run_both : (n : Sizes) (last : ℕ) (start : Beginning) (events : List PoolEvent) (state later : OpenState) → AreKinds n → n.slots ≤ 4096 → StampsHold n start state → open_run n last events state ≡ Some later → StampsHold n start later
+run_both : (n : Sizes) (last : ℕ) (start : Beginning) (events : List PoolEvent) (state later : OpenState) → AreKinds n → n.slots < n.tops → StampsHold n start state → open_run n last events state ≡ Some later → StampsHold n start later
 run_both n last start [] state later are most w is = subst (λ (x : OpenState). StampsHold n start x) (some_state state later is) w
 run_both n last start (event ∷ events) state later are most w is =
     let parts = split (open_event n last state event) (open_run n last events) later is in
@@ -338,15 +351,15 @@ link_within n start j are = of (nat_lt j (first_ready (range_at n j) (nodes_of s
 pub top_within : (n : Sizes) (start : Beginning) (k : ℕ) → AreKinds n → k < length n.kinds → IsNullOrOf n k (start_top (range_of n k) (nodes_of start k))
 top_within n start k are lt = or_none_is n k (first_ready (range_of n k) (nodes_of start k)) are lt (omega arith)
 
-pub start_within : (n : Sizes) (start : Beginning) (memory : Word → ℕ) → AreKinds n → n.slots ≤ 4096 → StartsAs n start memory → WordsWithin n memory
+pub start_within : (n : Sizes) (start : Beginning) (memory : Word → ℕ) → AreKinds n → n.slots < n.tops → StartsAs n start memory → WordsWithin n memory
 start_within n start memory are most starts = record {
   stamped = λ k lt. (let phase : memory Phase ≡ start.first = starts Phase refl in let is = (parts k lt).0 in omega (arith, is, phase));
   topped = λ k lt. subst (IsNullOrOf n k) (sym (parts k lt).1) (top_within n start k are lt);
   linked = λ j within. subst (IsNullOrOf n (kind_of n j)) (sym (starts (Link j) (row_has n.slots j within))) (link_within n start j are);
 } where
-  parts : (k : ℕ) → k < length n.kinds → (stamp memory k ≡ start.first) × (top memory k ≡ start_top (range_of n k) (nodes_of start k))
-  parts k lt = tells memory k start.first (start_top (range_of n k) (nodes_of start k)) (starts (Head k) (row_heads (length n.kinds) k lt))
-      (slot_small (range_of n k) (first_ready (range_of n k) (nodes_of start k)) (let last = last_within n k are in omega (arith, last, most)))
+  parts : (k : ℕ) → k < length n.kinds → (stamp n.tops memory k ≡ start.first) × (top n.tops memory k ≡ start_top (range_of n k) (nodes_of start k))
+  parts k lt = tells n.tops memory k start.first (start_top (range_of n k) (nodes_of start k)) (starts (Head k) (row_heads (length n.kinds) k lt))
+      (slot_small n.tops (range_of n k) (first_ready (range_of n k) (nodes_of start k)) (let last = last_within n k are in omega (arith, last, most)))
 
 pub words_stay_within : OfAll WordsStayWithin
 words_stay_within n last start are most fit memory starts events state is =

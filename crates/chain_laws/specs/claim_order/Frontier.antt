@@ -30,21 +30,21 @@ pub record OpenState : Type 0 where
   pub who : ℕ → Standing
 
 -- the exchange of a claim of kind k that takes the slot at the frontier of k moves it on
-abbrev pub frontier_at : ℕ → ClaimStage → (Word → ℕ) → (ℕ → ℕ) → ℕ → ℕ
-frontier_at k claims.ReadHead memory v = v
-frontier_at k (claims.ReadLink q t) memory v = v
-frontier_at k (claims.Take q t next) memory v = if memory (Head k) == head_word q t then (if t == v k then put v k (v k + 1) else v) else v
-frontier_at k (claims.StoreUsed q t) memory v = v
-frontier_at k (claims.Withdraw own) memory v = v
-frontier_at k claims.Sweeps memory v = v
+abbrev pub frontier_at : ℕ → ℕ → ClaimStage → (Word → ℕ) → (ℕ → ℕ) → ℕ → ℕ
+frontier_at tops k claims.ReadHead memory v = v
+frontier_at tops k (claims.ReadLink q t) memory v = v
+frontier_at tops k (claims.Take q t next) memory v = if memory (Head k) == head_word tops q t then (if t == v k then put v k (v k + 1) else v) else v
+frontier_at tops k (claims.StoreUsed q t) memory v = v
+frontier_at tops k (claims.Withdraw own) memory v = v
+frontier_at tops k claims.Sweeps memory v = v
 
-abbrev pub claims_at : ℕ → ClaimStage → (Word → ℕ) → ℕ → ℕ
-claims_at k claims.ReadHead memory count = count
-claims_at k (claims.ReadLink q t) memory count = count
-claims_at k (claims.Take q t next) memory count = if memory (Head k) == head_word q t then count + 1 else count
-claims_at k (claims.StoreUsed q t) memory count = count
-claims_at k (claims.Withdraw own) memory count = count
-claims_at k claims.Sweeps memory count = count
+abbrev pub claims_at : ℕ → ℕ → ClaimStage → (Word → ℕ) → ℕ → ℕ
+claims_at tops k claims.ReadHead memory count = count
+claims_at tops k (claims.ReadLink q t) memory count = count
+claims_at tops k (claims.Take q t next) memory count = if memory (Head k) == head_word tops q t then count + 1 else count
+claims_at tops k (claims.StoreUsed q t) memory count = count
+claims_at tops k (claims.Withdraw own) memory count = count
+claims_at tops k claims.Sweeps memory count = count
 
 abbrev pub open_begins : Standing → OpenState → Option OpenState
 open_begins Elsewhere later = Some later
@@ -57,8 +57,8 @@ open_stepped n last state c (Claims claim) =
     let turn = claim_accepts n last claim (state.memory (word_of (claim_wants claim))) in
     Some (record {
       memory = after_access state.memory (claim_wants claim);
-      frontier = frontier_at claim.kind claim.stage state.memory state.frontier;
-      claims = claims_at claim.kind claim.stage state.memory state.claims;
+      frontier = frontier_at n.tops claim.kind claim.stage state.memory state.frontier;
+      claims = claims_at n.tops claim.kind claim.stage state.memory state.claims;
       who = put state.who c (claim_left turn.claim turn.ended);
     })
 open_stepped n last state c (Retires retirement) =
@@ -105,19 +105,19 @@ IsGood range memory v x = IsNear range v x × (IsPast range v x → IsNear range
 
 -- the words of kind k, whose slots are those of the range, if claims have come to v: from there on they are as at the start. The link of
 -- a slot that was never pushed may name none
-pub record IsOrdered (range : SlotRange) (k nodes first : ℕ) (memory : Word → ℕ) (v : ℕ) : Type 0 where
+pub record IsOrdered (tops : ℕ) (range : SlotRange) (k nodes first : ℕ) (memory : Word → ℕ) (v : ℕ) : Type 0 where
   -- null is no slot of the range
   pub above_null : 1 ≤ range.first
   pub least : first_ready range nodes ≤ v
   pub greatest : v ≤ range.last + 1
-  pub top_good : IsGood range memory v (top memory k)
+  pub top_good : IsGood range memory v (top tops memory k)
   pub link_good : (j : ℕ) → IsPast range v j → IsNear range v (memory (Link j)) → IsGood range memory v (memory (Link j))
   pub link_first : (j : ℕ) → v ≤ j → j ≤ range.last → memory (Link j) ≡ slot_after range j
   pub status_first : (j : ℕ) → v ≤ j → j ≤ range.last → memory (Status j) ≡ status_word first kinds.Ready
 
 -- those of all kinds, if each has so many initial nodes, and its claims have come to its frontier
 abbrev pub AreOrdered : Sizes → (ℕ → ℕ) → ℕ → (Word → ℕ) → (ℕ → ℕ) → Type 0
-AreOrdered n nodes first memory v = (k : ℕ) → k < length n.kinds → IsOrdered (range_of n k) k (nodes k) first memory (v k)
+AreOrdered n nodes first memory v = (k : ℕ) → k < length n.kinds → IsOrdered n.tops (range_of n k) k (nodes k) first memory (v k)
 
 -- a slot that was claimed, by the frontier of its kind
 abbrev pub WasClaimed : Sizes → (ℕ → ℕ) → ℕ → Type 0
@@ -149,7 +149,7 @@ ClaimFits n k memory v stage claims.Sweeps = SweepFits n memory v stage
 
 abbrev pub Fits : Sizes → (Word → ℕ) → (ℕ → ℕ) → Standing → Type 0
 Fits n memory v Elsewhere = Unit {0}
-Fits n memory v (Claims claim) = (claim.kind < length n.kinds) × ClaimFits n claim.kind memory v claim.sweep.stage claim.stage
+Fits n memory v (Claims claim) = (claim.kind < length n.kinds) × ClaimFits n claim.kind memory v claim.sweep.stage claim.stage × (claim.sweep.tops ≡ n.tops)
 Fits n memory v (Retires retirement) = retirement.slot < v (kind_of n retirement.slot)
 
 pub record OpenHolds (n : Sizes) (start : Beginning) (state : OpenState) : Type 0 where
@@ -162,12 +162,12 @@ pub record OpenHolds (n : Sizes) (start : Beginning) (state : OpenState) : Type 
 -- in each state of a run with any retirements
 pub record ClaimsAreOrdered (n : Sizes) (start : Beginning) (state : OpenState) : Type 0 where
   -- if no slot is on top of a kind's chain, the kind's initial nodes and all claims together are at least as many as its slots
-  pub full : (k : ℕ) → k < length n.kinds → top state.memory k ≡ 0 → slots_of n k ≤ nodes_of start k + state.claims
+  pub full : (k : ℕ) → k < length n.kinds → top n.tops state.memory k ≡ 0 → slots_of n k ≤ nodes_of start k + state.claims
   -- a slot from the frontier of its kind on is as at the start
   pub ready : (j : ℕ) → state.frontier (kind_of n j) ≤ j → j ≤ n.slots → state.memory (Status j) ≡ status_word start.first kinds.Ready
   -- and no caller has it
   pub unclaimed : (c : ℕ) → slot_of (state.who c) < state.frontier (kind_of n (slot_of (state.who c)))
 
 abbrev pub ClaimsStayOrdered : Sizes → ℕ → Beginning → Type 0
-ClaimsStayOrdered n last start = AreKinds n → n.slots ≤ 4096 → NodesFit n start → (memory : Word → ℕ) → StartsAs n start memory
+ClaimsStayOrdered n last start = AreKinds n → n.slots < n.tops → NodesFit n start → (memory : Word → ℕ) → StartsAs n start memory
     → (events : List PoolEvent) (state : OpenState) → open_run n last events (open_start n start memory) ≡ Some state → ClaimsAreOrdered n start state

@@ -41,12 +41,12 @@ Below phase (Retires retirement) = Unit {0}
 
 pub record WordsWithin (n : Sizes) (memory : Word → ℕ) : Type 0 where
   -- each head's phase is at most the phase word
-  pub stamped : (k : ℕ) → k < length n.kinds → stamp memory k ≤ memory Phase
+  pub stamped : (k : ℕ) → k < length n.kinds → stamp n.tops memory k ≤ memory Phase
   -- each head's top names a slot of its kind, or none, and each link one of the kind of its slot
-  pub topped : (k : ℕ) → k < length n.kinds → IsNullOrOf n k (top memory k)
+  pub topped : (k : ℕ) → k < length n.kinds → IsNullOrOf n k (top n.tops memory k)
   pub linked : (j : ℕ) → j ≤ n.slots → IsNullOrOf n (kind_of n j) (memory (Link j))
 
 -- in each state of a run with any retirements
 abbrev pub WordsStayWithin : Sizes → ℕ → Beginning → Type 0
-WordsStayWithin n last start = AreKinds n → n.slots ≤ 4096 → NodesFit n start → (memory : Word → ℕ) → StartsAs n start memory
+WordsStayWithin n last start = AreKinds n → n.slots < n.tops → NodesFit n start → (memory : Word → ℕ) → StartsAs n start memory
     → (events : List PoolEvent) (state : OpenState) → open_run n last events (open_start n start memory) ≡ Some state → WordsWithin n state.memory

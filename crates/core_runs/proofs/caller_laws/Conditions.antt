@@ -1,5 +1,5 @@
 -- An entry that belongs has what its code needs: what is asked of an entry that asks, and of one that is told a lawful word.
-use Rattle.std.proofs.Common.{◌≡◌, ℕ, zero, suc, ◌+◌, ◌≤◌, ◌<◌, ◌^◌, true, false, length, Option, Some, None, refl, subst, ap, arith}
+use Rattle.std.proofs.Common.{◌≡◌, ℕ, zero, suc, ◌+◌, ◌≤◌, ◌*◌, ◌<◌, ◌^◌, true, false, length, Option, Some, None, refl, subst, ap, arith}
 use Rattle.std.specs.Prelude.{slice_get, nat_lt, nat_le}
 use Rattle.std.specs.List.{list_all}
 use Rattle.std.proofs.lemmas.Bool.{and_parts, leb-true}
@@ -37,6 +37,7 @@ use Rattle.caller_steps.specs.Wants.{exchange_wanted, instr_wanted, list_wanted,
 use Rattle.caller_steps.specs.Lawful.{Accepts, AsksSafely, IsSafe, MayBeTold}
 use Rattle.caller_steps.specs.Belongs.{Belongs, ClaimBelongs, NamesSlots, ClaimStands, HasComeTo, RetireFits, RunsAt, Stands, SweepBelongs}
 use Rattle.caller_steps.specs.Asking.{CanAccept, CanAsk, CanAskInstr, CanAskList, CanAskPlain, CanExchange, HasField, InstrAccepts, IsNear}
+use Rattle.std.proofs.Math.Nat.{mul-le-mul_left}
 use Rattle.core_runs.proofs.caller_laws.OfKinds.{of_row}
 use Rattle.core_runs.proofs.caller_laws.Methods.{Methods, SettingSane, setting_sane, zero_count_fits}
 use Rattle.core_runs.proofs.caller_laws.Schemes.{has_own}
@@ -45,15 +46,12 @@ use Rattle.core_runs.proofs.caller_laws.Named.{named}
 use Rattle.core_runs.proofs.caller_laws.Safety.{below, list_there, wants_safe}
 use Rattle.core_runs.proofs.caller_laws.Fitting.{clears_register, sweep_ranges, claim_told}
 
-few : (setting : Setting) → IsSetting setting → setting.sizes.slots < 2 ^ 32
-few setting own = let le = own.sizes.3 in omega (arith, le)
-
--- registers that name slots of the row fit their type
-pub are_slots : (setting : Setting) (registers : Registers) → IsSetting setting → NamesSlots setting.sizes.slots registers → AreSlots registers
-are_slots setting registers own names = record { each = of }
+-- registers that name slots of the row fit their type, if the slots do
+pub are_slots : (setting : Setting) (registers : Registers) → setting.sizes.slots < 2 ^ 32 → NamesSlots setting.sizes.slots registers → AreSlots registers
+are_slots setting registers few names = record { each = of }
   where
     of : (r : Reg) → slot_in registers r < 2 ^ 32
-    of r = let le : slot_in registers r ≤ setting.sizes.slots = named setting.sizes.slots registers r names in let lt = few setting own in omega (arith, le, lt)
+    of r = let le : slot_in registers r ≤ setting.sizes.slots = named setting.sizes.slots registers r names in omega (arith, le, few)
 
 -- ---- asking: the wanted word is in the row
 
@@ -155,7 +153,12 @@ near_onward target setting e (onwards.List k) sane here stands = near_list targe
 
 -- a phase of the run is one that fits a status
 retire_told : (target : Target) (setting : Setting) (slot word : ℕ) (stage : RetireStage) → IsSetting setting → Accepts target setting (retire_wants_at slot stage) word → RetireTold stage word
-retire_told target setting slot word retires.ReadPhase own told = let most = told.1 in let last = own.last in omega (arith, most, last)
+retire_told target setting slot word retires.ReadPhase own told =
+    let most = told.1 in
+    let last = own.last in
+    let four : setting.last * 4 ≤ setting.last * setting.sizes.tops = mul-le-mul_left setting.last own.sizes.room in
+    let room = own.sizes.room in
+    omega (arith, most, last, four, room)
 retire_told target setting slot word (retires.StoreStatus p) own told = tt
 
 accept_step : (target : Target) (setting : Setting) (e : Entry) (word : ℕ) (routine : Routine) → Methods target → IsSetting setting → Fits target setting → Belongs target setting e
@@ -172,7 +175,7 @@ accept_step target setting e word (Claims claim) sane own fits b reaches stands 
   stands.1.kind,
   claim_own target setting e claim b stands.1,
   claim_ranges setting claim.kind claim.sweep claim.stage (setting_sane setting own) (claim_own target setting e claim b stands.1) stands.1.stands stands.1.sweep,
-  claim_told target setting claim.kind claim.sweep word claim.stage told,
+  claim_told target setting claim.sweep.tops claim.kind claim.sweep word claim.stage told,
 )
 accept_step target setting e word (Zeroes k field) sane own fits b reaches stands told = zeroes_within target setting e field sane fits stands.0 stands.3
 accept_step target setting e word (Announces announcing) sane own fits b reaches stands told = tt

@@ -90,7 +90,7 @@ module _ (by : Reclamation) (target : Target) (setting : Setting) (e : Entry) (w
   pub moved_clears : (next : AfterClear) → e.routine ≡ Clears next → moved by target setting e word ≡ quiet (then_cleared target setting.sizes next (counted e))
   moved_clears next is = rw is refl
 
-  pub moved_claims : (claim : Claim) → e.routine ≡ Claims claim → moved by target setting e word ≡ claimed by target (claim_accepts setting.sizes setting.last claim word) (claim_counted (claim_takes claim word) (counted e))
+  pub moved_claims : (claim : Claim) → e.routine ≡ Claims claim → moved by target setting e word ≡ claimed by target (claim_accepts setting.sizes setting.last claim word) (claim_counted (claim_takes setting.sizes claim word) (counted e))
   moved_claims claim is = rw is refl
 
   pub moved_zeroes : (k field : ℕ) → e.routine ≡ Zeroes k field → moved by target setting e word ≡ zeroed by target setting.sizes k field (counted e)

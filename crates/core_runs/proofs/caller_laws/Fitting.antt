@@ -42,26 +42,26 @@ sweep_ranges setting bound (sweeps.PushTop k j q t) some s = (kind_known setting
 
 -- a head of a kind has a slot of the row on top
 head_told : (setting : Setting) (k word : ℕ) → LawfulHead setting k word → IsHead setting.sizes setting.last word
-head_told setting k word lawful = (lawful.0, of_row setting.sizes k (head_parts word).top lawful.1)
+head_told setting k word lawful = (lawful.0, of_row setting.sizes k (head_parts setting.sizes.tops word).top lawful.1)
 
 warned_told : (target : Target) (setting : Setting) (scheme : Scheme) (c s word : ℕ) → Accepts target setting (warn_wanted scheme c s) word → word ≤ setting.last
 warned_told target setting Warned c s word l = warning_within setting.reclamation setting word l
 warned_told target setting (Announced own) c s word l = warning_within setting.reclamation setting word l
 
-sweep_told : (target : Target) (setting : Setting) (scheme : Scheme) (bound word : ℕ) (stage : SweepStage) → Accepts target setting (sweep_wants_at scheme stage bound) word → SweepTold setting.sizes setting.last stage word
-sweep_told target setting scheme bound word sweeps.ReadPhase l = l.1
-sweep_told target setting scheme bound word (sweeps.RaisePhase p) l = l.1
-sweep_told target setting scheme bound word (sweeps.Warn c) l = warned_told target setting scheme c bound word l
-sweep_told target setting scheme bound word (sweeps.PushHead k j) l = head_told setting k word l
-sweep_told target setting scheme bound word (sweeps.PushLink j q t) l = tt
-sweep_told target setting scheme bound word (sweeps.PushTop k j q t) l = head_told setting k word l
-sweep_told target setting scheme bound word _ l = l
+sweep_told : (target : Target) (setting : Setting) (tops : ℕ) (scheme : Scheme) (bound word : ℕ) (stage : SweepStage) → Accepts target setting (sweep_wants_at tops scheme stage bound) word → SweepTold setting.sizes setting.last stage word
+sweep_told target setting tops scheme bound word sweeps.ReadPhase l = l.1
+sweep_told target setting tops scheme bound word (sweeps.RaisePhase p) l = l.1
+sweep_told target setting tops scheme bound word (sweeps.Warn c) l = warned_told target setting scheme c bound word l
+sweep_told target setting tops scheme bound word (sweeps.PushHead k j) l = head_told setting k word l
+sweep_told target setting tops scheme bound word (sweeps.PushLink j q t) l = tt
+sweep_told target setting tops scheme bound word (sweeps.PushTop k j q t) l = head_told setting k word l
+sweep_told target setting tops scheme bound word _ l = l
 
-pub claim_told : (target : Target) (setting : Setting) (k : ℕ) (sweep : Sweep) (word : ℕ) (stage : ClaimStage) → Accepts target setting (claim_wants_at k sweep stage) word
+pub claim_told : (target : Target) (setting : Setting) (tops k : ℕ) (sweep : Sweep) (word : ℕ) (stage : ClaimStage) → Accepts target setting (claim_wants_at tops k sweep stage) word
     → ClaimTold setting.sizes setting.last sweep stage word
-claim_told target setting k sweep word claims.ReadHead l = head_told setting k word l
-claim_told target setting k sweep word (claims.ReadLink q t) l = of_row setting.sizes (kind_of setting.sizes t) word l
-claim_told target setting k sweep word (claims.Take q t next) l = head_told setting k word l
-claim_told target setting k sweep word (claims.StoreUsed q t) l = tt
-claim_told target setting k sweep word (claims.Withdraw own) l = tt
-claim_told target setting k sweep word claims.Sweeps l = sweep_told target setting sweep.scheme sweep.bound word sweep.stage l
+claim_told target setting tops k sweep word claims.ReadHead l = head_told setting k word l
+claim_told target setting tops k sweep word (claims.ReadLink q t) l = of_row setting.sizes (kind_of setting.sizes t) word l
+claim_told target setting tops k sweep word (claims.Take q t next) l = head_told setting k word l
+claim_told target setting tops k sweep word (claims.StoreUsed q t) l = tt
+claim_told target setting tops k sweep word (claims.Withdraw own) l = tt
+claim_told target setting tops k sweep word claims.Sweeps l = sweep_told target setting tops sweep.scheme sweep.bound word sweep.stage l

@@ -117,13 +117,13 @@ module _ (target : Target) (text : Text) (runs : MayBeWalked target text) where
 -- there is a slot, a field and a phase, each slot has room on top of a head, and the kinds share the slots out
 pub record SettingSane (setting : Setting) : Type 0 where
   pub slots : 1 ≤ setting.sizes.slots
-  pub few : setting.sizes.slots ≤ 4096
+  pub few : setting.sizes.slots < setting.sizes.tops
   pub fields : 1 ≤ setting.sizes.fields
   pub phases : setting.first ≤ setting.last
   pub kinds : AreKinds setting.sizes
 
 pub setting_sane : (setting : Setting) → IsSetting setting → SettingSane setting
-setting_sane setting own = record { slots = own.sizes.2; few = own.sizes.3; fields = own.sizes.4; phases = own.phases; kinds = own.sizes.8 }
+setting_sane setting own = record { slots = own.sizes.slots; few = own.sizes.tops; fields = own.sizes.fields; phases = own.phases; kinds = own.sizes.kinds }
 
 -- a `new` makes a node of one of the row's kinds, of which there are at most four
 pub new_fits : (target : Target) (setting : Setting) (op : ℕ) (wrapup : Bool) (at : ℕ) → Methods target → SettingSane setting → Fits target setting → is_new_at (instr_at target op wrapup at) ≡ true

@@ -51,8 +51,8 @@ lower_still Warned s low word is = is
 lower_still (Announced own) s low word is = let less = lower_less low word in omega (arith, is, less)
 
 -- a sweep before its first access
-pub fresh_sweep : (setting : Setting) (scheme : Scheme) → SweepBelongs setting (sweep_begun scheme)
-fresh_sweep setting scheme = record { stands = tt; bound = omega arith; low = no_lower scheme 0; gathered = λ k d lt. let no : k < 0 = lt in omega (arith, no) }
+pub fresh_sweep : (setting : Setting) (tops : ℕ) (scheme : Scheme) → SweepBelongs setting (sweep_begun tops scheme)
+fresh_sweep setting tops scheme = record { stands = tt; bound = omega arith; low = no_lower scheme 0; gathered = λ k d lt. let no : k < 0 = lt in omega (arith, no) }
 
 pub on_keeps : (setting : Setting) (sweep : Sweep) (j : ℕ) → j ≤ setting.sizes.slots → SweepBelongs setting sweep → Bound setting sweep → Gathers setting sweep → SweepKeeps setting (sweep_on setting.sizes sweep j)
 on_keeps setting sweep j high own bound gathers =
@@ -68,7 +68,7 @@ gathers_more setting slots zero le all = all
 gathers_more setting slots (suc j) le all = All-push (λ (i : ℕ). i ≤ setting.sizes.slots) slots (suc j) all le
 
 pub sweep_keeps : (target : Target) (setting : Setting) (sweep : Sweep) (word : ℕ) (stage : SweepStage) → SettingSane setting → 0 < setting.sizes.callers → SweepBelongs setting sweep
-    → SweepStands setting sweep.bound stage → HasBound setting sweep.bound stage → Gathers setting sweep → Accepts target setting (sweep_wants_at sweep.scheme stage sweep.bound) word
+    → SweepStands setting sweep.bound stage → HasBound setting sweep.bound stage → Gathers setting sweep → Accepts target setting (sweep_wants_at sweep.tops sweep.scheme stage sweep.bound) word
     → SweepKeeps setting (sweep_accepts_at setting.sizes setting.last sweep word stage)
 sweep_keeps target setting sweep word sweeps.ReadPhase some callers own stands bound gathers lawful = of (word == setting.last) refl where
   of : (b : Bool) → (word == setting.last) ≡ b → SweepKeeps setting (if b then sweep_ends sweep (swept.PhasesOver word) else sweep_goes sweep (sweeps.RaisePhase word))
@@ -104,14 +104,14 @@ sweep_keeps target setting sweep word (sweeps.MakeReady j q) some callers own st
   of true = record { stands = (stands.0, stands.1, refl); bound = bound; low = own.low; gathered = gathers }
   of false = on_keeps setting sweep j stands.1 own bound gathers
 sweep_keeps target setting sweep word (sweeps.PushHead k j) some callers own stands bound gathers lawful = record {
-  stands = (stands.0, stands.1, lawful.0, of_same_kind setting.sizes k (kind_of setting.sizes j) (head_parts word).top stands.2 lawful.1);
+  stands = (stands.0, stands.1, lawful.0, of_same_kind setting.sizes k (kind_of setting.sizes j) (head_parts setting.sizes.tops word).top stands.2 lawful.1);
   bound = bound;
   low = own.low;
   gathered = gathers;
 }
 sweep_keeps target setting sweep word (sweeps.PushLink j q t) some callers own stands bound gathers lawful =
     record { stands = (stands.0, stands.1, stands.2, stands.3, refl); bound = bound; low = own.low; gathered = gathers }
-sweep_keeps target setting sweep word (sweeps.PushTop k j q t) some callers own stands bound gathers lawful = of (word == head_word q t) where
+sweep_keeps target setting sweep word (sweeps.PushTop k j q t) some callers own stands bound gathers lawful = of (word == head_word setting.sizes.tops q t) where
   of : (b : Bool) → SweepKeeps setting (if b then sweep_on setting.sizes sweep j else sweep_goes sweep (sweeps.PushHead (kind_of setting.sizes j) j))
   of true = on_keeps setting sweep j stands.1 own bound gathers
   of false = record { stands = (stands.0, stands.1, refl); bound = bound; low = own.low; gathered = gathers }
@@ -126,17 +126,20 @@ ClaimOn setting c (Some (ends.PhasesOver p)) claim = Unit {0}
 abbrev pub ClaimKeeps : Setting → ℕ → ClaimTurn → Type 0
 ClaimKeeps setting c turn = ClaimOn setting c turn.ended turn.claim
 
--- its sweeps go by the scheme of the setting
-abbrev Follows : Setting → ℕ → Claim → Type 0
-Follows setting c claim = claim.sweep.scheme ≡ scheme_of setting.reclamation c
+-- its sweeps go by the scheme of the setting, and have the row's tops
+abbrev pub Goes : Setting → ℕ → Sweep → Type 0
+Goes setting c sweep = (sweep.scheme ≡ scheme_of setting.reclamation c) × (sweep.tops ≡ setting.sizes.tops)
+
+abbrev pub Follows : Setting → ℕ → Claim → Type 0
+Follows setting c claim = Goes setting c claim.sweep
 
 started_keeps : (setting : Setting) (c : ℕ) (claim : Claim) → claim.kind < length setting.sizes.kinds → Follows setting c claim → ClaimKeeps setting c (sweep_started claim)
-started_keeps setting c claim known follows = record { kind = known; scheme = follows; stands = tt; sweep = fresh_sweep setting claim.sweep.scheme }
+started_keeps setting c claim known follows = record { kind = known; scheme = follows.0; tops = follows.1; stands = tt; sweep = fresh_sweep setting claim.sweep.tops claim.sweep.scheme }
 
 -- a sweep follows a look, or first the withdrawal of the caller's own announcement
 follows_keeps : (setting : Setting) (c : ℕ) (claim : Claim) (scheme : Scheme) (made : ℕ) → claim.kind < length setting.sizes.kinds → Follows setting c claim → claim.sweep.scheme ≡ scheme → SweepBelongs setting claim.sweep
     → ClaimKeeps setting c (sweep_follows scheme made claim)
-follows_keeps setting c claim (Announced announced) zero known follows is own = record { kind = known; scheme = follows; stands = is; sweep = own }
+follows_keeps setting c claim (Announced announced) zero known follows is own = record { kind = known; scheme = follows.0; tops = follows.1; stands = is; sweep = own }
 follows_keeps setting c claim _ _ known follows is own = started_keeps setting c claim known follows
 
 ended_keeps : (setting : Setting) (c : ℕ) (claim : Claim) → claim.kind < length setting.sizes.kinds → Follows setting c claim → SweepBelongs setting claim.sweep → ClaimKeeps setting c (look_ended claim)
@@ -153,32 +156,34 @@ begun_keeps setting c claim head within known follows own = of (head.top == 0) r
   of true is = ended_keeps setting c claim known follows own
   of false is =
       let one = slot_of_kind setting.sizes claim.kind head.top (grind (arith, nat_tests)) within.1 in
-      record { kind = known; scheme = follows; stands = (one.0, one.1, within.0, one.2); sweep = own }
+      record { kind = known; scheme = follows.0; tops = follows.1; stands = (one.0, one.1, within.0, one.2); sweep = own }
 
-swept_keeps : (setting : Setting) (c : ℕ) (claim : Claim) (sweep : Sweep) (end : Option SweepEnd) → claim.stage ≡ claims.Sweeps → claim.kind < length setting.sizes.kinds → sweep.scheme ≡ scheme_of setting.reclamation c
+swept_keeps : (setting : Setting) (c : ℕ) (claim : Claim) (sweep : Sweep) (end : Option SweepEnd) → claim.stage ≡ claims.Sweeps → claim.kind < length setting.sizes.kinds → Goes setting c sweep
     → SweepBelongs setting sweep → ClaimKeeps setting c (sweep_ended claim sweep end)
 swept_keeps setting c claim sweep None is known follows own =
-    record { kind = known; scheme = follows; stands = subst (λ (stage : ClaimStage). ClaimStands setting sweep.scheme claim.kind stage) (sym is) tt; sweep = own }
-swept_keeps setting c claim sweep (Some swept.Swept) is known follows own = record { kind = known; scheme = follows; stands = tt; sweep = own }
+    record { kind = known; scheme = follows.0; tops = follows.1; stands = subst (λ (stage : ClaimStage). ClaimStands setting sweep.scheme claim.kind stage) (sym is) tt; sweep = own }
+swept_keeps setting c claim sweep (Some swept.Swept) is known follows own = record { kind = known; scheme = follows.0; tops = follows.1; stands = tt; sweep = own }
 swept_keeps setting c claim sweep (Some (swept.PhasesOver p)) is known follows own = tt
 
 pub claim_keeps : (target : Target) (setting : Setting) (c : ℕ) (claim : Claim) (word : ℕ) (stage : ClaimStage) → claim.stage ≡ stage → SettingSane setting → 0 < setting.sizes.callers
     → claim.kind < length setting.sizes.kinds → Follows setting c claim → ClaimStands setting claim.sweep.scheme claim.kind stage → SweepBelongs setting claim.sweep
-    → Accepts target setting (claim_wants_at claim.kind claim.sweep stage) word → ClaimKeeps setting c (claim_accepts_at setting.sizes setting.last claim word stage)
-claim_keeps target setting c claim word claims.ReadHead is some callers known follows stands own lawful = begun_keeps setting c claim (head_parts word) lawful known follows own
+    → Accepts target setting (claim_wants_at claim.sweep.tops claim.kind claim.sweep stage) word → ClaimKeeps setting c (claim_accepts_at setting.sizes setting.last claim word stage)
+claim_keeps target setting c claim word claims.ReadHead is some callers known follows stands own lawful = begun_keeps setting c claim (head_parts setting.sizes.tops word) lawful known follows own
 claim_keeps target setting c claim word (claims.ReadLink q t) is some callers known follows stands own lawful = record {
   kind = known;
-  scheme = follows;
+  scheme = follows.0;
+  tops = follows.1;
   stands = (stands.0, stands.1, stands.2, of_same_kind setting.sizes (kind_of setting.sizes t) claim.kind word stands.3 lawful, stands.3);
   sweep = own;
 }
-claim_keeps target setting c claim word (claims.Take q t next) is some callers known follows stands own lawful = of (word == head_word q t) where
+claim_keeps target setting c claim word (claims.Take q t next) is some callers known follows stands own lawful = of (word == head_word setting.sizes.tops q t) where
   of : (b : Bool) → ClaimKeeps setting c (if b then claim_goes claim (claims.StoreUsed q t) else claim_goes claim claims.ReadHead)
-  of true = record { kind = known; scheme = follows; stands = (stands.0, stands.1, stands.2, stands.4); sweep = own }
-  of false = record { kind = known; scheme = follows; stands = tt; sweep = own }
+  of true = record { kind = known; scheme = follows.0; tops = follows.1; stands = (stands.0, stands.1, stands.2, stands.4); sweep = own }
+  of false = record { kind = known; scheme = follows.0; tops = follows.1; stands = tt; sweep = own }
 claim_keeps target setting c claim word (claims.StoreUsed q t) is some callers known follows stands own lawful = (stands.0, stands.1, stands.3)
 claim_keeps target setting c claim word (claims.Withdraw announced) is some callers known follows stands own lawful = started_keeps setting c claim known follows
 claim_keeps target setting c claim word claims.Sweeps is some callers known follows stands own lawful =
     let turn = sweep_accepts setting.sizes setting.last claim.sweep word in
-    swept_keeps setting c claim turn.sweep turn.ended is known ((schemes_stay setting.sizes setting.last claim.sweep word).scheme ∙ follows)
+    let stays = schemes_stay setting.sizes setting.last claim.sweep word in
+    swept_keeps setting c claim turn.sweep turn.ended is known (stays.scheme ∙ follows.0, stays.tops ∙ follows.1)
     (sweep_keeps target setting claim.sweep word claim.sweep.stage some callers own own.stands own.bound own.gathered lawful)

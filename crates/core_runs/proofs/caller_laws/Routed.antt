@@ -290,7 +290,7 @@ step_routed by target setting Holds h e word Restarts is on swept = restarted_ro
 step_routed by target setting Holds h e word (Clears next) is on swept = cleared_routed target setting.sizes Holds h next (with_hand e (unguarded (clear_next target next e) e.hand))
 step_routed by target setting Holds h e word (Claims claim) is on swept =
     let turn = claim_accepts setting.sizes setting.last claim word in
-    claim_routed target setting.sizes Holds h by turn.claim turn.ended (claim_counted (claim_takes claim word) e) (λ goes. on.claims claim refl goes) (swept claim refl)
+    claim_routed target setting.sizes Holds h by turn.claim turn.ended (claim_counted (claim_takes setting.sizes claim word) e) (λ goes. on.claims claim refl goes) (swept claim refl)
 step_routed by target setting Holds h e word (Zeroes k field) is on swept = zeroed_routed target setting.sizes Holds h by k field e
 step_routed by target setting Holds h e word (Announces announcing) is on swept = announced_routed target setting.sizes Holds h announcing word e
 

@@ -76,10 +76,10 @@ at_least a b e = grind (arith, nat_tests)
 status_lawful : (last q : ℕ) (kind : Kind) → q ≤ last → LawfulStatus last (status_word q kind)
 status_lawful last q kind le = subst (λ (o : Option StatusParts). IsSomeAnd o (λ (p : StatusParts). p.phase ≤ last)) (sym (status_back q kind)) le
 
-head_lawful : (setting : Setting) (q k j : ℕ) → SettingSane setting → q ≤ setting.last → IsNullOrOf setting.sizes k j → LawfulHead setting k (head_word q j)
+head_lawful : (setting : Setting) (q k j : ℕ) → SettingSane setting → q ≤ setting.last → IsNullOrOf setting.sizes k j → LawfulHead setting k (head_word setting.sizes.tops q j)
 head_lawful setting q k j some within of =
     let le = of_row setting.sizes k j of in
-    subst (λ (parts : HeadParts). (parts.phase ≤ setting.last) × IsNullOrOf setting.sizes k parts.top) (sym (head_back q j (let few = some.few in omega (arith, le, few)))) (within, of)
+    subst (λ (parts : HeadParts). (parts.phase ≤ setting.last) × IsNullOrOf setting.sizes k parts.top) (sym (head_back setting.sizes.tops q j (let few = some.few in omega (arith, le, few)))) (within, of)
 
 -- each kind of access
 pub loads_safe : (target : Target) (setting : Setting) (w : Word) → in_row setting.sizes w ≡ true → is_place_word w ≡ false → IsSafe target setting (Loads w)
@@ -118,7 +118,7 @@ warn_safe target setting Warned c s lt low high = raises_safe target setting c s
 warn_safe target setting (Announced own) c s lt low high = loads_safe target setting (Warning c) (less c setting.sizes.callers lt) refl
 
 sweep_safe : (target : Target) (setting : Setting) (scheme : Scheme) (bound : ℕ) (stage : SweepStage) → SettingSane setting → SweepStands setting bound stage → HasBound setting bound stage
-    → IsSafe target setting (sweep_wants_at scheme stage bound)
+    → IsSafe target setting (sweep_wants_at setting.sizes.tops scheme stage bound)
 sweep_safe target setting scheme bound sweeps.ReadPhase some stands s = loads_safe target setting Phase refl refl
 sweep_safe target setting scheme bound (sweeps.RaisePhase p) some stands s = exchanges_safe target setting Phase p (p + 1) refl refl (omega (arith, stands.0), omega (arith, stands.1))
 sweep_safe target setting scheme bound (sweeps.Warn c) some stands s = warn_safe target setting scheme c bound stands s.0 s.1
@@ -129,15 +129,15 @@ sweep_safe target setting scheme bound (sweeps.MakeReady j q) some stands s =
 sweep_safe target setting scheme bound (sweeps.PushHead k j) some stands s = loads_safe target setting (Head k) (head_row setting k (kind_known setting.sizes k j some.kinds stands.2)) refl
 sweep_safe target setting scheme bound (sweeps.PushLink j q t) some stands s = stores_safe target setting (Link j) t (link_row setting j stands.1) refl stands.3
 sweep_safe target setting scheme bound (sweeps.PushTop k j q t) some stands s =
-    exchanges_safe target setting (Head k) (head_word q t) (head_word (max q bound) j) (head_row setting k (kind_known setting.sizes k j some.kinds stands.4)) refl
+    exchanges_safe target setting (Head k) (head_word setting.sizes.tops q t) (head_word setting.sizes.tops (max q bound) j) (head_row setting k (kind_known setting.sizes k j some.kinds stands.4)) refl
     (head_lawful setting (max q bound) k j some (omega (arith, stands.2, s.1)) (of_own_kind setting.sizes k j stands.0 stands.1 (sym stands.4)))
 
 claim_safe : (target : Target) (setting : Setting) (c k : ℕ) (sweep : Sweep) (stage : ClaimStage) → SettingSane setting → c < setting.sizes.callers → k < length setting.sizes.kinds → sweep.scheme ≡ scheme_of setting.reclamation c
-    → ClaimStands setting sweep.scheme k stage → SweepBelongs setting sweep → IsSafe target setting (claim_wants_at k sweep stage)
+    → ClaimStands setting sweep.scheme k stage → SweepBelongs setting sweep → IsSafe target setting (claim_wants_at setting.sizes.tops k sweep stage)
 claim_safe target setting c k sweep claims.ReadHead some lt known follows stands own = loads_safe target setting (Head k) (head_row setting k known) refl
 claim_safe target setting c k sweep (claims.ReadLink q t) some lt known follows stands own = loads_safe target setting (Link t) (link_row setting t stands.1) refl
 claim_safe target setting c k sweep (claims.Take q t next) some lt known follows stands own =
-    exchanges_safe target setting (Head k) (head_word q t) (head_word q next) (head_row setting k known) refl (head_lawful setting q k next some stands.2 stands.3)
+    exchanges_safe target setting (Head k) (head_word setting.sizes.tops q t) (head_word setting.sizes.tops q next) (head_row setting k known) refl (head_lawful setting q k next some stands.2 stands.3)
 claim_safe target setting c k sweep (claims.StoreUsed q t) some lt known follows stands own =
     stores_safe target setting (Status t) (status_word q statuses.Used) (status_row setting t stands.1) refl (status_lawful setting.last q statuses.Used stands.2)
 claim_safe target setting c k sweep (claims.Withdraw announced) some lt known follows stands own =
@@ -313,7 +313,8 @@ step_safe target setting e (Retires retirement go) sane some fits b busy reaches
 step_safe target setting e Restarts sane some fits b busy reaches kinds stands = cleared_safe target setting e.number e.hand.guards (restart_spares e.hand.wrapup (op_of target e)) b.number b.hand.guards.row.slots stands.2
 step_safe target setting e (Clears next) sane some fits b busy reaches kinds stands = cleared_safe target setting e.number e.hand.guards (then_spares next (op_of target e)) b.number b.hand.guards.row.slots stands.2
 step_safe target setting e (Claims claim) sane some fits b busy reaches kinds stands =
-    claim_safe target setting e.number claim.kind claim.sweep claim.stage some b.number stands.1.kind stands.1.scheme stands.1.stands stands.1.sweep
+    subst (λ (tops : ℕ). IsSafe target setting (claim_wants_at tops claim.kind claim.sweep claim.stage)) (sym stands.1.tops)
+    (claim_safe target setting e.number claim.kind claim.sweep claim.stage some b.number stands.1.kind stands.1.scheme stands.1.stands stands.1.sweep)
 step_safe target setting e (Zeroes k field) sane some fits b busy reaches kinds stands =
     stores_safe target setting (FieldOf (cradle_of e k) field) 0
     (field_row setting (cradle_of e k) field (b.cradles.within k) (let below = stands.3 in let room = (zero_count_fits target setting e.running.call.op e.hand.wrapup e.hand.at sane fits stands.0).1 in omega (arith, below, room))) refl (zero_lawful target setting (cradle_of e k) field)

@@ -375,9 +375,9 @@ step_keeps target setting by e word (Clears next) sane some fits scheme b reache
     clear_keeps target setting e (clear_next target next e) next sane some fits (holds_of target setting e b kinds.started) (here_of target setting e b reaches kinds.now) stands.0 stands.1
 step_keeps target setting by e word (Claims claim) sane some fits scheme b reaches kinds stands told =
     let turn = claim_accepts setting.sizes setting.last claim word in
-    let counts = claim_counted (claim_takes claim word) e in
-    claimed_keeps target setting by counts turn.claim turn.ended sane some fits (claims_counted target setting (claim_takes claim word) e (holds_of target setting e b kinds.started)) (here_of target setting e b reaches kinds.now) scheme stands.0 ((claim_stays setting.sizes setting.last claim word).kind ∙ stands.2)
-    (claim_keeps target setting e.number claim word claim.stage refl some (omega (arith, b.number)) stands.1.kind stands.1.scheme stands.1.stands stands.1.sweep told)
+    let counts = claim_counted (claim_takes setting.sizes claim word) e in
+    claimed_keeps target setting by counts turn.claim turn.ended sane some fits (claims_counted target setting (claim_takes setting.sizes claim word) e (holds_of target setting e b kinds.started)) (here_of target setting e b reaches kinds.now) scheme stands.0 ((claim_stays setting.sizes setting.last claim word).kind ∙ stands.2)
+    (claim_keeps target setting e.number claim word claim.stage refl some (omega (arith, b.number)) stands.1.kind (stands.1.scheme, stands.1.tops) stands.1.stands stands.1.sweep told)
 step_keeps target setting by e word (Zeroes k field) sane some fits scheme b reaches kinds stands told =
     zero_keeps target setting by e k field sane some fits (holds_of target setting e b kinds.started) (here_of target setting e b reaches kinds.now) scheme stands
 step_keeps target setting by e word (Announces announcing) sane some fits scheme b reaches kinds stands told =

@@ -77,7 +77,7 @@ pub new_belongs : (target : Target) (setting : Setting) (scheme : Scheme) (e : E
     → scheme ≡ scheme_of setting.reclamation e.number → is_new_at (instr_in target e) ≡ true → Belongs target setting (new_begun scheme target setting.sizes e)
 new_belongs target setting scheme e sane some fits h c follows stands = of (cradle_of e (new_number target e)) refl where
   begun_claim : ClaimBelongs setting e.number (claim_begun setting.sizes (new_kind target e) scheme)
-  begun_claim = record { kind = (new_fits target setting e.running.call.op e.hand.wrapup e.hand.at sane some fits stands).0; scheme = follows; stands = tt; sweep = fresh_sweep setting scheme }
+  begun_claim = record { kind = (new_fits target setting e.running.call.op e.hand.wrapup e.hand.at sane some fits stands).0; scheme = follows; tops = refl; stands = tt; sweep = fresh_sweep setting setting.sizes.tops scheme }
 
   of : (j : ℕ) → cradle_of e (new_number target e) ≡ j → Belongs target setting (new_on scheme setting.sizes (new_kind target e) (new_number target e) j e)
   of zero is = record { number = h.number; op = h.op; hand = hand_belongs target setting e h c.names; cradles = h.cradles; reaches = c.reached; kinds = record { now = c.kinds; started = h.start }; stands = (stands, begun_claim, refl) }

@@ -22,7 +22,7 @@ use Rattle.phase_pools.specs.declared.stages.RetireStage.{RetireStage}
 use Rattle.phase_pools.specs.declared.stages.RetireStage.TheVariants as retires
 use Rattle.phase_pools.specs.declared.stages.Scheme.{Scheme}
 use Rattle.phase_pools.specs.declared.stages.Scheme.TheVariants.{Warned, Announced}
-use Rattle.phase_pools.specs.Pools.{Sweep, warn_wanted, sweep_wants_at, sweep_accepts_at, Claim, ClaimTurn, claim_wants_at, claim_accepts, claim_accepts_at, claim_sweeps, claim_takes, takes_at, Retirement, retire_wants_at, retire_accepts_at}
+use Rattle.phase_pools.specs.Pools.{Sweep, warn_wanted, sweep_wants_at, sweep_accepts_at, Claim, ClaimTurn, claim_wants, claim_wants_at, claim_accepts, claim_accepts_at, claim_sweeps, claim_takes, takes_at, Retirement, retire_wants_at, retire_accepts_at}
 use Rattle.caller_parts.specs.declared.routine.Routine.{Routine}
 use Rattle.caller_parts.specs.declared.routine.Routine.TheVariants.{LoadSeen, At, InList, Retires, Claims, Announces}
 use Rattle.caller_parts.specs.declared.routine.Announcing.TheVariants as announces
@@ -53,19 +53,19 @@ warn_no_store Warned c s w x is = cc
 warn_no_store (Announced own) c s w x is = cc
 
 -- a claim's stores are of a status, of a link, and of the caller's own warning
-sweep_store : (n : Sizes) (last : ℕ) (sweep : Sweep) (stage : SweepStage) (w : Word) (x a b : ℕ) → sweep_wants_at sweep.scheme stage sweep.bound ≡ Stores w x
+sweep_store : (n : Sizes) (last tops : ℕ) (sweep : Sweep) (stage : SweepStage) (w : Word) (x a b : ℕ) → sweep_wants_at tops sweep.scheme stage sweep.bound ≡ Stores w x
     → sweep_accepts_at n last sweep a stage ≡ sweep_accepts_at n last sweep b stage
-sweep_store n last sweep (sweeps.Warn c) w x a b is = absurd (warn_no_store sweep.scheme c sweep.bound w x is)
-sweep_store n last sweep (sweeps.PushLink j q t) w x a b is = refl
-sweep_store n last sweep _ w x a b is = absurd cc
+sweep_store n last tops sweep (sweeps.Warn c) w x a b is = absurd (warn_no_store sweep.scheme c sweep.bound w x is)
+sweep_store n last tops sweep (sweeps.PushLink j q t) w x a b is = refl
+sweep_store n last tops sweep _ w x a b is = absurd cc
 
 -- the claim after a store, and whether it took a slot
-claim_store : (n : Sizes) (last : ℕ) (claim : Claim) (stage : ClaimStage) (w : Word) (x a b : ℕ) → claim_wants_at claim.kind claim.sweep stage ≡ Stores w x
-    → (claim_accepts_at n last claim a stage ≡ claim_accepts_at n last claim b stage) × (takes_at stage a ≡ takes_at stage b)
-claim_store n last claim (claims.StoreUsed q t) w x a b is = (refl, refl)
-claim_store n last claim (claims.Withdraw own) w x a b is = (refl, refl)
-claim_store n last claim claims.Sweeps w x a b is = (ap (claim_sweeps claim) (sweep_store n last claim.sweep claim.sweep.stage w x a b is), refl)
-claim_store n last claim _ w x a b is = absurd cc
+claim_store : (n : Sizes) (last tops : ℕ) (claim : Claim) (stage : ClaimStage) (w : Word) (x a b : ℕ) → claim_wants_at tops claim.kind claim.sweep stage ≡ Stores w x
+    → (claim_accepts_at n last claim a stage ≡ claim_accepts_at n last claim b stage) × (takes_at n.tops stage a ≡ takes_at n.tops stage b)
+claim_store n last tops claim (claims.StoreUsed q t) w x a b is = (refl, refl)
+claim_store n last tops claim (claims.Withdraw own) w x a b is = (refl, refl)
+claim_store n last tops claim claims.Sweeps w x a b is = (ap (claim_sweeps claim) (sweep_store n last tops claim.sweep claim.sweep.stage w x a b is), refl)
+claim_store n last tops claim _ w x a b is = absurd cc
 
 plain_store : (by : Reclamation) (target : Target) (sizes : Sizes) (i : Instr) (registers : Registers) (w : Word) (x a b : ℕ) (e : Entry) → plain_wanted target.fields i registers ≡ Some (Stores w x) → plain_accepted by target sizes i a e ≡ plain_accepted by target sizes i b e
 plain_store by target sizes (instr.LoadRoot d y) registers w x a b e is = absurd cc
@@ -99,8 +99,8 @@ step_store by target setting e (InList k) w x a b is = absurd (list_no_store tar
 step_store by target setting e (Retires retirement go) w x a b is =
     ap (λ (o : Option Retirement). retired_on by target setting.sizes go o (counted e)) (retire_store retirement.slot retirement.stage w x a b (some_same (retire_wants_at retirement.slot retirement.stage) (Stores w x) is))
 step_store by target setting e (Claims claim) w x a b is =
-    let same = claim_store setting.sizes setting.last claim claim.stage w x a b (some_same (claim_wants_at claim.kind claim.sweep claim.stage) (Stores w x) is) in
-    ap (λ (turn : ClaimTurn). claimed by target turn (claim_counted (claim_takes claim a) (counted e))) same.0
+    let same = claim_store setting.sizes setting.last claim.sweep.tops claim claim.stage w x a b (some_same (claim_wants claim) (Stores w x) is) in
+    ap (λ (turn : ClaimTurn). claimed by target turn (claim_counted (claim_takes setting.sizes claim a) (counted e))) same.0
     ∙ ap (λ (takes : Bool). claimed by target (claim_accepts setting.sizes setting.last claim b) (claim_counted takes (counted e))) same.1
 step_store by target setting e (Announces (announces.Loads why)) w x a b is = absurd cc
 step_store by target setting e _ w x a b is = refl

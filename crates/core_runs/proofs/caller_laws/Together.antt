@@ -34,7 +34,7 @@ fits_code target text setting runs own fits = record {
   accepts = λ e word b told. can_accept target setting e word (methods target text runs) own fits b told;
   near = λ e b. is_near target setting e (methods target text runs) b;
   news = news_fit target setting (methods target text runs) (setting_sane setting own) fits;
-  slots = λ e b. (are_slots setting e.hand.registers own b.hand.registers, are_slots setting e.hand.started own b.hand.started);
+  slots = λ few e b. (are_slots setting e.hand.registers few b.hand.registers, are_slots setting e.hand.started few b.hand.started);
 }
 
 -- an idle entry wants nothing

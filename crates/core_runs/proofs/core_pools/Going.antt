@@ -75,7 +75,7 @@ past_callers target setting state d shaped le = of (slice_get state.entries d) r
 past_row : (setting : Setting) (state : CoreState) (w : Word) → in_row setting.sizes w ≡ false → (view setting state).memory w ≡ 0
 past_row setting state w out = rw out refl
 
-module _ (target : Target) (setting : Setting) (are : AreKinds setting.sizes) (few : setting.sizes.slots ≤ 4096) (news : NewsFit target setting.sizes) (base : PoolState) (sane : Holds setting.sizes base) where
+module _ (target : Target) (setting : Setting) (are : AreKinds setting.sizes) (few : setting.sizes.slots < setting.sizes.tops) (news : NewsFit target setting.sizes) (base : PoolState) (sane : Holds setting.sizes base) where
   -- events of the pool lead there from its state before
   abbrev From : PoolState → Type 0
   From pool = RunsTo setting.sizes setting.last base pool
@@ -125,7 +125,7 @@ module _ (target : Target) (setting : Setting) (are : AreKinds setting.sizes) (f
   unfolding after
   claims_stand e word own is =
       let turn = claim_accepts setting.sizes setting.last own word in
-      ap (λ (r : Routine). standing_of (accepted setting.reclamation target setting word (counted e) r).entry.routine) is ∙ of setting.reclamation turn.claim turn.ended (claim_counted (claim_takes own word) (counted e)) where
+      ap (λ (r : Routine). standing_of (accepted setting.reclamation target setting word (counted e) r).entry.routine) is ∙ of setting.reclamation turn.claim turn.ended (claim_counted (claim_takes setting.sizes own word) (counted e)) where
         gained : (by : Reclamation) (made j : ℕ) (e : Entry) → standing_of (slot_gained by target made j e).routine ≡ Elsewhere
         gained Epochs zero j e = refl
         gained _ _ j e = refl
@@ -189,7 +189,7 @@ module _ (target : Target) (setting : Setting) (are : AreKinds setting.sizes) (f
       let word = v.memory (word_of (claim_wants own)) in
       let turn = claim_accepts setting.sizes setting.last own word in
       let e : Entry = after target setting (v.who c) word in
-      let later : PoolState = record { memory = after_access v.memory (claim_wants own); hands = claim_hands c own.kind own.sweep own.stage v.memory hands; who = put (standings v.who) c (claim_left turn.claim turn.ended) } in (
+      let later : PoolState = record { memory = after_access v.memory (claim_wants own); hands = claim_hands setting.sizes.tops c own.kind own.sweep own.stage v.memory hands; who = put (standings v.who) c (claim_left turn.claim turn.ended) } in (
         later.hands,
         subst (λ (w : ℕ → Standing). From (record later { who = w })) (ap (put (standings v.who) c) (sym (claims_stand (v.who c) word own is)) ∙ put_entry (standings v.who) v.who c e (λ d ne. refl))
             (from_more pool later leads (caller_steps setting.sizes setting.last c pool later (ap (stepped setting.sizes setting.last pool c) (ap standing_of is)))),
@@ -269,6 +269,6 @@ abbrev pub PoolRuns : Setting → CoreState → Hands → CoreState → Type 0
 PoolRuns setting state hands later = (hands' : Hands) × RunsTo setting.sizes setting.last (pool_with setting state hands) (pool_with setting later hands')
 
 -- an event of the core, if what is retired in the state after it is used and nobody else's
-pub event_runs : (target : Target) (setting : Setting) (are : AreKinds setting.sizes) (few : setting.sizes.slots ≤ 4096) (news : NewsFit target setting.sizes) (state later : CoreState) (hands : Hands) (event : CoreEvent) → Holds setting.sizes (pool_with setting state hands) → IsShaped target setting state
+pub event_runs : (target : Target) (setting : Setting) (are : AreKinds setting.sizes) (few : setting.sizes.slots < setting.sizes.tops) (news : NewsFit target setting.sizes) (state later : CoreState) (hands : Hands) (event : CoreEvent) → Holds setting.sizes (pool_with setting state hands) → IsShaped target setting state
     → Moves target setting (view setting state) event (view setting later) → RetiresUsed setting (view setting later).memory (standings (view setting later).who) → PoolRuns setting state hands later
 event_runs target setting are few news state later hands event sane shaped m used = event_goes target setting are few news (pool_with setting state hands) sane state later event shaped m (hands, ([], refl)) used

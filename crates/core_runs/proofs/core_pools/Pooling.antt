@@ -1,5 +1,5 @@
 -- The pool's state beside a core run from the start.
-use Rattle.std.proofs.Common.{ℕ, ◌≤◌, [], Some, refl, sym, ap}
+use Rattle.std.proofs.Common.{◌<◌, ℕ, ◌≤◌, [], Some, refl, sym, ap}
 use Rattle.target_code.specs.declared.target.Target.{Target}
 use Rattle.oa_words.specs.Within.{AreKinds}
 use Rattle.oa_words.specs.Starts.{Suits}
@@ -18,7 +18,7 @@ use Rattle.core_runs.specs.core_sound.Standing.{standing_of}
 use Rattle.core_runs.specs.core_pools.Pooled.{standings, first_pool, Leads, Pooled, RetiresUsed}
 use Rattle.core_runs.proofs.core_pools.Going.{event_goes}
 
-module _ (target : Target) (setting : Setting) (are : AreKinds setting.sizes) (few : setting.sizes.slots ≤ 4096) (suits : Suits setting.sizes (beginning_of target setting)) where
+module _ (target : Target) (setting : Setting) (are : AreKinds setting.sizes) (few : setting.sizes.slots < setting.sizes.tops) (suits : Suits setting.sizes (beginning_of target setting)) where
   -- what holds of the pool where events lead, and what it tells
   pub leads_hold : (pool : PoolState) → Leads target setting pool → Holds setting.sizes pool
   leads_hold pool l = chains_stand setting.sizes setting.last (beginning_of target setting) are few suits.nodes _ (λ w row. (start_is_seen target setting).memory suits w row) l.events pool l.run

@@ -46,7 +46,7 @@ is_kind : (setting : Setting) (t : ℕ) → t < length setting.sizes.kinds → i
 is_kind setting t lt = grind (arith, nat_tests)
 
 pub sound_stays : (target : Target) (setting : Setting) (state : CoreState) → Methods target → SettingSane setting → Fits target setting → IsSound target setting state
-    → ((t : ℕ) → t < length setting.sizes.kinds → (head_parts (word_at setting state (Head t))).phase ≤ word_at setting state Phase) → StaysInRow target setting state
+    → ((t : ℕ) → t < length setting.sizes.kinds → (head_parts setting.sizes.tops (word_at setting state (Head t))).phase ≤ word_at setting state Phase) → StaysInRow target setting state
 sound_stays target setting state sane some fits s stamped = record {
   registers = λ c r e is. (s.belong c e is).0.hand.registers.within r;
   started = λ c r e is. (s.belong c e is).0.hand.started.within r;
@@ -92,23 +92,26 @@ states_are_shaped target text setting state runs own fits reached =
 -- ---- schemes
 
 -- what an entry that belongs claims goes by the setting's scheme
-claim_follows : (target : Target) (setting : Setting) (e : Entry) (claim : Claim) → Belongs target setting e → e.routine ≡ Claims claim → claim.sweep.scheme ≡ scheme_of setting.reclamation e.number
-claim_follows target setting e claim b is = (subst (λ (routine : Routine). Stands target setting e routine) is b.stands).1.scheme
+claim_follows : (target : Target) (setting : Setting) (e : Entry) (claim : Claim) → Belongs target setting e → e.routine ≡ Claims claim
+    → (claim.sweep.scheme ≡ scheme_of setting.reclamation e.number) × (claim.sweep.tops ≡ setting.sizes.tops)
+claim_follows target setting e claim b is = let own = (subst (λ (routine : Routine). Stands target setting e routine) is b.stands).1 in (own.scheme, own.tops)
 
 pub claims_follow : Always ClaimsFollowSetting
 claims_follow target text setting state runs own fits reached = record {
   each = λ c e claim there is.
       let belongs = (states_are_sound target text setting state runs own fits reached).belong c e there in
-      claim_follows target setting e claim belongs.0 is ∙ ap (scheme_of setting.reclamation) belongs.1;
+      (claim_follows target setting e claim belongs.0 is).0 ∙ ap (scheme_of setting.reclamation) belongs.1;
+  tops = λ c e claim there is.
+      (claim_follows target setting e claim ((states_are_sound target text setting state runs own fits reached).belong c e there).0 is).1;
 }
 
 -- ---- the heads' phases
 
 stamped_in : (setting : Setting) (state : CoreState) → IsStamped setting (view setting state).memory (view setting state).who
-    → (t : ℕ) → t < length setting.sizes.kinds → (head_parts (word_at setting state (Head t))).phase ≤ word_at setting state Phase
+    → (t : ℕ) → t < length setting.sizes.kinds → (head_parts setting.sizes.tops (word_at setting state (Head t))).phase ≤ word_at setting state Phase
 stamped_in setting state w t lt =
     let seen : (view setting state).memory (Head t) ≡ word_at setting state (Head t) = ap (λ (b : Bool). if b then word_at setting state (Head t) else 0) (is_kind setting t lt) in
-    subst (λ (word : ℕ). (head_parts word).phase ≤ word_at setting state Phase) seen (w.words.stamped t lt)
+    subst (λ (word : ℕ). (head_parts setting.sizes.tops word).phase ≤ word_at setting state Phase) seen (w.words.stamped t lt)
 
 states_are_stamped : (target : Target) (text : Text) (setting : Setting) (state : CoreState) → MayBeWalked target text → IsSetting setting → Fits target setting → Reachable target setting state
     → IsStamped setting (view setting state).memory (view setting state).who

@@ -29,7 +29,7 @@ use Rattle.chain_laws.proofs.Lists.{each_put}
 use Rattle.chain_laws.proofs.Changes.{Same}
 use Rattle.chain_laws.proofs.Same.{same_loaded, same_written}
 use Rattle.chain_laws.specs.claim_order.Stamps.{Below, WordsWithin}
-use Rattle.chain_laws.proofs.claim_order.Stamps.{ClaimOn, ClaimStores, SweepStores, below_up, claim_within, retire_within, start_within, words_same}
+use Rattle.chain_laws.proofs.claim_order.Stamps.{ClaimOn, ClaimStores, SweepStores, below_up, claim_keeps, retire_within, start_within, words_same}
 use Rattle.caller_parts.specs.declared.routine.AfterRetire.{AfterRetire}
 use Rattle.caller_parts.specs.declared.routine.Routine.{Routine}
 use Rattle.caller_parts.specs.declared.routine.Routine.TheVariants.{Idle, LoadSeen, At, InList, Retires, Restarts, Clears, Claims, Zeroes, Announces}
@@ -184,7 +184,7 @@ module _ (target : Target) (setting : Setting) (some : SettingSane setting) wher
       let found = m (word_of (claim_wants claim)) in
       let turn = claim_accepts setting.sizes setting.last claim found in
       let m' : Word → ℕ = after_access m (claim_wants claim) in
-      let k = claim_within setting.sizes setting.last m claim claim.stage refl some.kinds some.few b.kind words (claim_stores setting e.number claim b) below in
+      let k = claim_keeps setting.sizes setting.last m claim b.tops some.kinds some.few b.kind words (claim_stores setting e.number claim b) below in
       record {
         words = k.words;
         up = k.up;

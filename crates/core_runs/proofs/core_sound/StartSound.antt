@@ -99,7 +99,7 @@ Small fields (Some words) = length words ≤ fields
 
 module _ {target : Target} {setting : Setting} (within : IsTargetWithinLimits target) (own : IsSetting setting) (fits : Fits target setting) where
   pub stand : NodesStand target
-  stand = nodes_stand target (let same = fits.kinds in let few = own.sizes.8.few in omega (arith, same, few)) (parts target within).nodes
+  stand = nodes_stand target (let same = fits.kinds in let few = own.sizes.kinds.few in omega (arith, same, few)) (parts target within).nodes
 
   pub rooted : list_all (is_root (length target.kinds) (owners_of target.nodes)) target.roots ≡ true
   rooted = roots_are (length target.kinds) (owners_of target.nodes) target.roots (parts target within).roots
@@ -119,7 +119,7 @@ module _ {target : Target} {setting : Setting} (within : IsTargetWithinLimits ta
       let known = (node_is target j node stand there).known in
       let same = fits.kinds in
       let small : kind_in (node_counts target) (suc j) < length setting.sizes.kinds = omega (arith, of, known, same) in
-      let slot = home_is_slot setting.sizes (node_counts target) own.sizes.8 fit j at.within small in
+      let slot = home_is_slot setting.sizes (node_counts target) own.sizes.kinds fit j at.within small in
       inr (slot.0, slot.1, home_is_of_kind setting.sizes (node_counts target) fit j at.within small ∙ at.kind)
 
   pub homes_of : (j k : ℕ) → is_owner (slice_get (owners_of target.nodes) j) k ≡ true → IsNullOrOf setting.sizes k (home (suc j))
@@ -137,8 +137,8 @@ module _ {target : Target} {setting : Setting} (within : IsTargetWithinLimits ta
       → slice_get target.nodes (number_in j) ≡ Some node → node.owner ≡ kind_of setting.sizes j
   node_in j node few there =
       let lt = ltb-true (j - first_of setting.sizes (kind_of setting.sizes j)) (nodes_of (beginning_of target setting) (kind_of setting.sizes j)) few in
-      let known = kind_small setting.sizes j own.sizes.8 in
-      let four = own.sizes.8.few in
+      let known = kind_small setting.sizes j own.sizes.kinds in
+      let four = own.sizes.kinds.few in
       node_of_part target (kind_of setting.sizes j) (number_in j) node stand there (omega (arith, known, four)) (omega arith) (omega (arith, lt))
 
   -- what holds of the words of each initial node, and of none, holds of those in a slot
@@ -203,10 +203,10 @@ module _ {target : Target} {setting : Setting} (within : IsTargetWithinLimits ta
       names_lawful setting (root_kind target.roots x) (slice_index (map (root_word home) target.roots) x) (cells_name (IsNullOrOf setting.sizes) (λ k. inl refl) homes_of x)
   start_is_lawful (Head t) row =
       let top : ℕ = start_top (range_of setting.sizes t) (nodes_of (beginning_of target setting) t) in
-      let of = top_within setting.sizes (beginning_of target setting) t own.sizes.8 (below t (length setting.sizes.kinds) row) in
+      let of = top_within setting.sizes (beginning_of target setting) t own.sizes.kinds (below t (length setting.sizes.kinds) row) in
       let le = of_row setting.sizes t top of in
-      subst (λ (parts : HeadParts). (parts.phase ≤ setting.last) × IsNullOrOf setting.sizes t parts.top) (sym (head_back setting.first top (let most = own.sizes.3 in omega (arith, le, most)))) (own.phases, of)
-  start_is_lawful (Link j) row = link_within setting.sizes (beginning_of target setting) j own.sizes.8
+      subst (λ (parts : HeadParts). (parts.phase ≤ setting.last) × IsNullOrOf setting.sizes t parts.top) (sym (head_back setting.sizes.tops setting.first top (let room = own.sizes.tops in omega (arith, le, room)))) (own.phases, of)
+  start_is_lawful (Link j) row = link_within setting.sizes (beginning_of target setting) j own.sizes.kinds
 
   words_lawful : AreLawful target setting (core_start target setting).words
   words_lawful w row = subst (λ (k : ℕ). IsLawful target setting w k) (sym (named.words w row)) (start_is_lawful w row)

@@ -36,13 +36,14 @@ pub record EntriesAskSafely (target : Target) (setting : Setting) : Type 0 where
   pub busy : (e : Entry) → Belongs target setting e → is_idle e.routine ≡ false → AsksSafely target setting (wants target e)
   pub idle : (e : Entry) → is_idle e.routine ≡ true → wants target e ≡ None
 
--- where it stands the code may ask for its access, and take a lawful word; the kinds of the nodes that it makes are kinds of the row
+-- where it stands the code may ask for its access, and take a lawful word; the kinds of the nodes that it makes are kinds of the row. If slots
+-- fit the type by which the code names them, its registers do
 pub record EntriesFitCode (target : Target) (setting : Setting) : Type 0 where
   pub asks : (e : Entry) → Belongs target setting e → CanAsk target setting e e.routine
   pub accepts : (e : Entry) (word : ℕ) → Belongs target setting e → MayBeTold target setting (wants target e) word → CanAccept target setting e word e.routine
   pub news : NewsFit target setting.sizes
   pub near : (e : Entry) → Belongs target setting e → e.hand.at < 2 ^ 62
-  pub slots : (e : Entry) → Belongs target setting e → AreSlots e.hand.registers × AreSlots e.hand.started
+  pub slots : setting.sizes.slots < 2 ^ 32 → (e : Entry) → Belongs target setting e → AreSlots e.hand.registers × AreSlots e.hand.started
 
 -- the word that a store found doesn't matter
 pub record StoresTellNothing (target : Target) (setting : Setting) : Type 0 where

@@ -53,14 +53,14 @@ pub record StaysInRow (target : Target) (setting : Setting) (state : CoreState) 
       → IsNullOrOf setting.sizes k (slot_part (word_at setting state (Cell x)))
   pub hazards : (c r : ℕ) → in_row setting.sizes (Hazard c r) ≡ true → NamesSlot setting (word_at setting state (Hazard c r))
   pub links : (j : ℕ) → in_row setting.sizes (Link j) ≡ true → IsNullOrOf setting.sizes (kind_of setting.sizes j) (word_at setting state (Link j))
-  pub top : (t : ℕ) → t < length setting.sizes.kinds → IsNullOrOf setting.sizes t (head_parts (word_at setting state (Head t))).top
+  pub top : (t : ℕ) → t < length setting.sizes.kinds → IsNullOrOf setting.sizes t (head_parts setting.sizes.tops (word_at setting state (Head t))).top
   pub words : length state.words ≡ word_count setting.sizes
   pub wanted : (c : ℕ) (e : Entry) (a : WordAccess) → slice_get state.entries c ≡ Some e → wants target e ≡ Some a
       → (address_of setting.sizes (word_of a) < word_count setting.sizes) × (is_place (word_of a) ≡ false) × IsLawful target setting (word_of a) (word_at setting state (word_of a))
   pub phase : LawfulPhase setting (word_at setting state Phase)
   pub warnings : (c : ℕ) → in_row setting.sizes (Warning c) ≡ true → LawfulWarning setting.reclamation setting (word_at setting state (Warning c))
   pub statuses : (j : ℕ) → in_row setting.sizes (Status j) ≡ true → LawfulStatus setting.last (word_at setting state (Status j))
-  pub stamped : (t : ℕ) → t < length setting.sizes.kinds → (head_parts (word_at setting state (Head t))).phase ≤ word_at setting state Phase
+  pub stamped : (t : ℕ) → t < length setting.sizes.kinds → (head_parts setting.sizes.tops (word_at setting state (Head t))).phase ≤ word_at setting state Phase
 
 -- the initial nodes and the roots have as many words as the row asks for, so that each word at the start says what its name does
 pub record StartSuits (target : Target) (setting : Setting) : Type 0 where

@@ -246,7 +246,7 @@ module _ (t : Plan) (c : ℕ) (s : Shared) (x : Caller) (w : Stepping t c s x) w
       let few : new_number t.target x.entry < length x.entry.cradles =
       (let known = stands.1.kind in
       let same = stands.2 in
-      let four = w.plan.some.sizes.8.few in
+      let four = w.plan.some.sizes.kinds.few in
       let small = cradle_number_small t.target x.entry.hand.wrapup (code_in t.target x.entry) x.entry.hand.at (sane_code t.target w.plan.sane x.entry.running.call.op x.entry.hand.wrapup) at_new (omega (arith, known, same, four)) in
       let count = w.belongs.cradles.count in omega (arith, small, count)) in
       λ row draws. claims_keep t c s x claim claim.stage refl (erasing w.plan.compiled) w.plan.null w.plan.callers w.shared_holds (record { base = w.caller_holds.base; running = spot.1; empty = spot.2; at_new = at_new; generator = gen }) few (subst (λ (r : Routine). TakesReady s.memory r) is w.ready) w.plan.optimistic stands.1 spot.0

@@ -109,7 +109,7 @@ at_routine target setting word e (Retires retirement go) never is = retired_draw
 at_routine target setting word e Restarts never is =
     let cleared : Entry = with_hand (counted e) (unguarded (restart_next target e) e.hand) in restart_draws target setting.sizes (restart_next target cleared) cleared
 at_routine target setting word e (Clears next) never is = refl
-at_routine target setting word e (Claims claim) never is = claim_draws target setting.sizes (claim_accepts setting.sizes setting.last claim word).claim (claim_accepts setting.sizes setting.last claim word).ended (claim_counted (claim_takes claim word) (counted e))
+at_routine target setting word e (Claims claim) never is = claim_draws target setting.sizes (claim_accepts setting.sizes setting.last claim word).claim (claim_accepts setting.sizes setting.last claim word).ended (claim_counted (claim_takes setting.sizes claim word) (counted e))
 at_routine target setting word e (Zeroes k field) never is = zero_draws target setting.sizes (nat_lt (field + 1) (zero_count target (instr_in target e))) k field (counted e) is
 at_routine target setting word e (Announces announcing) never is = absurd (never announcing refl)
 

@@ -198,7 +198,7 @@ stays_seen target setting word e (Retires retirement go) never other = retired_s
 stays_seen target setting word e Restarts never other = restarted_seen target setting.sizes (with_hand (counted e) (unguarded (restart_next target e) e.hand)) ∙ unguarded_seen (restart_next target e) e.hand
 stays_seen target setting word e (Clears next) never other = cleared_seen target setting.sizes next (with_hand (counted e) (unguarded (clear_next target next e) e.hand)) ∙ unguarded_seen (clear_next target next e) e.hand
 stays_seen target setting word e (Claims claim) never other =
-    let turn = claim_accepts setting.sizes setting.last claim word in claim_seen target setting.sizes turn.claim turn.ended (claim_counted (claim_takes claim word) (counted e))
+    let turn = claim_accepts setting.sizes setting.last claim word in claim_seen target setting.sizes turn.claim turn.ended (claim_counted (claim_takes setting.sizes claim word) (counted e))
 stays_seen target setting word e (Zeroes k field) never other = zeroed_seen target setting.sizes k field (counted e)
 stays_seen target setting word e (Announces announcing) never other = absurd (never announcing refl)
 

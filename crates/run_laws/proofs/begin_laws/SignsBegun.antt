@@ -299,7 +299,7 @@ step_starts by target setting word e Restarts is =
 step_starts by target setting word e (Clears next) is = (refl, λ never. fewer_wait by _ (cleared_on target setting.sizes next (with_hand e (unguarded (clear_next target next e) e.hand))))
 step_starts by target setting word e (Claims claim) is =
     let turn = claim_accepts setting.sizes setting.last claim word in
-    let on = claim_goes target setting.sizes by turn.claim turn.ended (claim_counted (claim_takes claim word) e) in
+    let on = claim_goes target setting.sizes by turn.claim turn.ended (claim_counted (claim_takes setting.sizes claim word) e) in
     (on.0, λ never. on.1)
 step_starts by target setting word e (Zeroes k field) is = let on = zeroed_on target setting.sizes by k field e in (on.0, λ never. on.1)
 step_starts by target setting word e (Announces announcing) is = (announced_starts target setting.sizes announcing word e, λ never. absurd (never announcing refl))

@@ -57,7 +57,7 @@ unfolding target touch
 text = record { kinds = item_kind ∷ []; fields = target.fields; roots = target.roots; nodes = target.nodes; ops = map erased_op target.ops }
 
 setting : Setting
-setting = record { reclamation = Optimistic; sizes = record { callers = 1; slots = 1; fields = 1; cells = 1; kinds = 1 ∷ [] }; first = 1; last = 9; nodes = 1 ∷ 0 ∷ 0 ∷ 0 ∷ [] }
+setting = record { reclamation = Optimistic; sizes = record { callers = 1; slots = 1; fields = 1; cells = 1; kinds = 1 ∷ []; tops = 8192 }; first = 1; last = 9; nodes = 1 ∷ 0 ∷ 0 ∷ 0 ∷ [] }
 
 -- the call, with so many steps
 with_steps : ℕ → List CoreEvent

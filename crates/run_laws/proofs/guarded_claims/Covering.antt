@@ -110,12 +110,12 @@ module _ (t : Plan) (w : World) (h : Holds t w) (c : ℕ) (mover : c < t.setting
   -- ---- the mover's entry
 
   -- the word that a sweep finds is the slot, if it reads the hazard word
-  finds_at : (scheme : Scheme) (p : ℕ) (g : List ℕ) (stage : SweepStage) → SweepAt t s p g stage → FindsAt d r v.slot (s.memory (word_of (sweep_wants_at scheme stage p))) stage
-  finds_at scheme p g (sweeps.ReadHazard i m) at = (at.2, λ same there. ap (λ (k : ℕ). s.memory (Hazard k m)) (sym same) ∙ (ap (λ (k : ℕ). s.memory (Hazard d k)) (sym there) ∙ v.word))
-  finds_at scheme p g _ at = tt
+  finds_at : (tops : ℕ) (scheme : Scheme) (p : ℕ) (g : List ℕ) (stage : SweepStage) → SweepAt t s p g stage → FindsAt d r v.slot (s.memory (word_of (sweep_wants_at tops scheme stage p))) stage
+  finds_at tops scheme p g (sweeps.ReadHazard i m) at = (at.2, λ same there. ap (λ (k : ℕ). s.memory (Hazard k m)) (sym same) ∙ (ap (λ (k : ℕ). s.memory (Hazard d k)) (sym there) ∙ v.word))
+  finds_at tops scheme p g _ at = tt
 
-  finds_in : (kind : ℕ) (sweep : Sweep) (stage : ClaimStage) → ClaimAt t s sweep stage → FindsIn d r v.slot (s.memory (word_of (claim_wants_at kind sweep stage))) sweep stage
-  finds_in kind sweep claims.Sweeps at = finds_at sweep.scheme sweep.bound sweep.gathered sweep.stage at
+  finds_in : (kind : ℕ) (sweep : Sweep) (stage : ClaimStage) → ClaimAt t s sweep stage → FindsIn d r v.slot (s.memory (word_of (claim_wants_at sweep.tops kind sweep stage))) sweep stage
+  finds_in kind sweep claims.Sweeps at = finds_at sweep.tops sweep.scheme sweep.bound sweep.gathered sweep.stage at
   finds_in kind sweep _ at = tt
 
   -- the slot that a claim ends with is ready before its last store, so it has no name
@@ -148,8 +148,8 @@ module _ (t : Plan) (w : World) (h : Holds t w) (c : ℕ) (mover : c < t.setting
     of true i is = ended_takes claim i is
     of false i is = absurd (let z : None ≡ Some (ends.Claimed i) = is in cc)
 
-  took_takes : (claim : Claim) (q j word : ℕ) → Takes (look_took claim q j word).ended
-  took_takes claim q j word = of (word == head_word q j) where
+  took_takes : (claim : Claim) (q j word : ℕ) → Takes (look_took t.setting.sizes claim q j word).ended
+  took_takes claim q j word = of (word == head_word t.setting.sizes.tops q j) where
     of : (b : Bool) → Takes (if b then claim_goes claim (claims.StoreUsed q j) else claim_goes claim claims.ReadHead).ended
     of true i is = absurd (let z : None ≡ Some (ends.Claimed i) = is in cc)
     of false i is = absurd (let z : None ≡ Some (ends.Claimed i) = is in cc)
@@ -166,14 +166,14 @@ module _ (t : Plan) (w : World) (h : Holds t w) (c : ℕ) (mover : c < t.setting
   swept_takes claim sweep (Some swept.Swept) i is = absurd (let z : None ≡ Some (ends.Claimed i) = is in cc)
   swept_takes claim sweep (Some (swept.PhasesOver p)) i is = absurd (let z : Some (ends.PhasesOver p) ≡ Some (ends.Claimed i) = is in cc)
 
-  accepts_takes : (claim : Claim) (stage : ClaimStage) → TakenIsReady s.memory stage → Takes (claim_accepts_at t.setting.sizes t.setting.last claim (s.memory (word_of (claim_wants_at claim.kind claim.sweep stage))) stage).ended
-  accepts_takes claim claims.ReadHead ready = begun_takes claim (head_parts (s.memory (Head claim.kind)))
+  accepts_takes : (claim : Claim) (stage : ClaimStage) → TakenIsReady s.memory stage → Takes (claim_accepts_at t.setting.sizes t.setting.last claim (s.memory (word_of (claim_wants_at claim.sweep.tops claim.kind claim.sweep stage))) stage).ended
+  accepts_takes claim claims.ReadHead ready = begun_takes claim (head_parts t.setting.sizes.tops (s.memory (Head claim.kind)))
   accepts_takes claim (claims.ReadLink q j) ready = λ i is. absurd (let z : None ≡ Some (ends.Claimed i) = is in cc)
   accepts_takes claim (claims.Take q j next) ready = took_takes claim q j (s.memory (Head claim.kind))
   accepts_takes claim (claims.StoreUsed q j) ready = used_takes j ready
   accepts_takes claim (claims.Withdraw own) ready = λ i is. absurd (let z : None ≡ Some (ends.Claimed i) = is in cc)
   accepts_takes claim claims.Sweeps ready =
-      let turn = sweep_accepts_at t.setting.sizes t.setting.last claim.sweep (s.memory (word_of (sweep_wants_at claim.sweep.scheme claim.sweep.stage claim.sweep.bound))) claim.sweep.stage in swept_takes claim turn.sweep turn.ended
+      let turn = sweep_accepts_at t.setting.sizes t.setting.last claim.sweep (s.memory (word_of (sweep_wants_at claim.sweep.tops claim.sweep.scheme claim.sweep.stage claim.sweep.bound))) claim.sweep.stage in swept_takes claim turn.sweep turn.ended
 
   -- what holds of the mover's entry afterwards
   abbrev Moves : Shared → Moved → Type 0
@@ -189,8 +189,8 @@ module _ (t : Plan) (w : World) (h : Holds t w) (c : ℕ) (mover : c < t.setting
   claim_moves s' claim warns ready at k =
       let word : ℕ = s.memory (word_of (claim_wants claim)) in
       let turn = claim_accepts t.setting.sizes t.setting.last claim word in (
-        λ ne. claim_away (claim_takes claim word) turn.claim turn.ended (accepts_takes claim claim.stage ready) (v.away c mover ne),
-        claim_where s' (claim_takes claim word) turn.claim turn.ended (claim_knows t.setting.sizes t.setting.last s' d r v.slot v.register some claim word claim.stage refl warns v.caller (finds_in claim.kind claim.sweep claim.stage at) k),
+        λ ne. claim_away (claim_takes t.setting.sizes claim word) turn.claim turn.ended (accepts_takes claim claim.stage ready) (v.away c mover ne),
+        claim_where s' (claim_takes t.setting.sizes claim word) turn.claim turn.ended (claim_knows t.setting.sizes t.setting.last s' d r v.slot v.register some claim word claim.stage refl warns v.caller (finds_in claim.kind claim.sweep claim.stage at) k),
       )
 
   other_moves : (s' : Shared) (word : ℕ) (routine : Routine) → x.entry.routine ≡ routine → is_claiming routine ≡ false → KnowsWhere s' d r v.slot x.entry.routine → Moves s' (accepted Optimistic t.target t.setting word (counted x.entry) routine)

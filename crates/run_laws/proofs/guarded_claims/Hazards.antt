@@ -102,13 +102,13 @@ module _ (m : Word → ℕ) (c r : ℕ) where
   warn_leaves Warned d bound = refl
   warn_leaves (Announced own) d bound = refl
 
-  sweep_leaves : (scheme : Scheme) (stage : SweepStage) (bound : ℕ) → Leaves m c r (Some (sweep_wants_at scheme stage bound))
-  sweep_leaves scheme (sweeps.Warn d) bound = warn_leaves scheme d bound
-  sweep_leaves scheme (sweeps.ReadHazard d i) bound = store_again m (Hazard d i) (Hazard c r)
-  sweep_leaves scheme _ bound = refl
+  sweep_leaves : (tops : ℕ) (scheme : Scheme) (stage : SweepStage) (bound : ℕ) → Leaves m c r (Some (sweep_wants_at tops scheme stage bound))
+  sweep_leaves tops scheme (sweeps.Warn d) bound = warn_leaves scheme d bound
+  sweep_leaves tops scheme (sweeps.ReadHazard d i) bound = store_again m (Hazard d i) (Hazard c r)
+  sweep_leaves tops scheme _ bound = refl
 
-  claim_leaves : (kind : ℕ) (sweep : Sweep) (stage : ClaimStage) → Leaves m c r (Some (claim_wants_at kind sweep stage))
-  claim_leaves kind sweep claims.Sweeps = sweep_leaves sweep.scheme sweep.stage sweep.bound
+  claim_leaves : (kind : ℕ) (sweep : Sweep) (stage : ClaimStage) → Leaves m c r (Some (claim_wants_at sweep.tops kind sweep stage))
+  claim_leaves kind sweep claims.Sweeps = sweep_leaves sweep.tops sweep.scheme sweep.stage sweep.bound
   claim_leaves kind sweep _ = refl
 
   announcing_leaves : (i : ℕ) (announcing : Announcing) → Leaves m c r (Some (announcing_wanted i announcing))

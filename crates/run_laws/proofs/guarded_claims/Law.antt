@@ -23,7 +23,7 @@ use Rattle.core_runs.proofs.Starting.{start_is_seen}
 use Rattle.core_runs.proofs.core_sound.Machine.{event_sound}
 use Rattle.core_runs.proofs.core_sound.StartSound.{start_sound}
 use Rattle.core_runs.proofs.core_sound.Reached.{sound_is_shaped, start_suits}
-use Rattle.source_machine.specs.Proper.{IsProper}
+use Rattle.source_machine.specs.Proper.{IsProperFor}
 use Rattle.target_laws.specs.target_runs.Runnable.{MayBeWalked}
 use Rattle.target_laws.proofs.target_runs.SaneTargets.{runnable_is_sane}
 use Rattle.oa_simulation.specs.sim_relation.Views.{Plan, IsPlan}
@@ -40,7 +40,7 @@ use Rattle.run_laws.proofs.guarded_claims.Runs.{MarkedWithPool, run_marked}
 use Rattle.caller_parts.specs.declared.setting.Reclamation.TheVariants.{Optimistic}
 
 -- every state that a run comes to, with the run's marks
-marked : (target : Target) (text : Text) (setting : Setting) → MayBeWalked target text → IsBarred target text → IsSetting setting → Fits target setting → setting.reclamation ≡ Optimistic → IsProper text → (events : List CoreEvent) (state : CoreState) → core_run target setting events (core_start target setting) ≡ Some state
+marked : (target : Target) (text : Text) (setting : Setting) → MayBeWalked target text → IsBarred target text → IsSetting setting → Fits target setting → setting.reclamation ≡ Optimistic → IsProperFor setting.sizes.callers text → (events : List CoreEvent) (state : CoreState) → core_run target setting events (core_start target setting) ≡ Some state
     → MarkedWithPool (plan_of target text setting events) state (shadow_run text (run_signs target setting events (core_start target setting)) (shadow_start text setting)) (run_marks target setting events (core_start target setting) no_marks)
 marked target text setting runs barred own fits optimistic proper events state is =
     let t : Plan = plan_of target text setting events in
@@ -52,16 +52,16 @@ marked target text setting runs barred own fits optimistic proper events state i
       some = own;
       fits = fits;
       optimistic = optimistic;
-      callers = own.sizes.0;
+      callers = own.sizes.callers;
       null = homes 0 (omega arith) ∙ first_null setting;
     } in
     let first = (start_beside t own (start_is_seen target setting) (start_suits target text setting runs own fits).suits (first_words t runs own fits homes)).0 in
-    run_marked t plan proper (events_are_seen target setting) (setting_sane setting own).kinds (setting_sane setting own).few (news_fit target setting (methods target text runs) (setting_sane setting own) fits) (start_suits target text setting runs own fits).suits
+    run_marked t plan proper (events_are_seen target setting) (setting_sane setting own).kinds own.sizes.tops (news_fit target setting (methods target text runs) (setting_sane setting own) fits) (start_suits target text setting runs own fits).suits
     (λ s sound. sound_is_shaped target setting s (methods target text runs) (setting_sane setting own) fits sound)
     (λ s next event sound at. event_sound target setting s next event (methods target text runs) (setting_sane setting own) fits sound at)
     events (core_start target setting) state z0 no_marks (start_sound target setting (methods target text runs) runs.within own fits)
     (record {
-      pooled = start_pooled target setting (setting_sane setting own).kinds (setting_sane setting own).few (start_suits target text setting runs own fits).suits;
+      pooled = start_pooled target setting (setting_sane setting own).kinds own.sizes.tops (start_suits target text setting runs own fits).suits;
       marked = record {
         beside = first;
         marked = λ c lt. record {
@@ -79,8 +79,8 @@ spares target text setting runs barred own fits optimistic proper events state i
     let t : Plan = plan_of target text setting events in
     let k = marked target text setting runs barred own fits optimistic proper events state is in
     let b = k.marked.beside in
-    let holds = leads_hold target setting (setting_sane setting own).kinds (setting_sane setting own).few (start_suits target text setting runs own fits).suits _ k.pooled.1 in
-    let told = leads_tell target setting (setting_sane setting own).kinds (setting_sane setting own).few (start_suits target text setting runs own fits).suits _ k.pooled.1 in
+    let holds = leads_hold target setting (setting_sane setting own).kinds own.sizes.tops (start_suits target text setting runs own fits).suits _ k.pooled.1 in
+    let told = leads_tell target setting (setting_sane setting own).kinds own.sizes.tops (start_suits target text setting runs own fits).suits _ k.pooled.1 in
     let known : (d j : ℕ) (takes : TakesSlot setting state d j) → takes.claim.kind < length setting.sizes.kinds = λ d j takes.
     (subst (λ (standing : Standing). StandsAt setting.sizes (view setting state).memory k.pooled.0 d standing) (ap standing_of takes.at) (holds.told d)).0 in
     let taken : (d j : ℕ) (takes : TakesSlot setting state d j) → (times j (k.pooled.0.chain takes.claim.kind) ≡ 1) × ((view setting state).memory (Link j) ≡ takes.next) = λ d j takes.

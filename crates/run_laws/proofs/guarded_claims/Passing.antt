@@ -102,7 +102,7 @@ module _ (sizes : Sizes) (last : ℕ) (s : Shared) (d r j : ℕ) (low : r < 8) (
     of false = on_knows sweep i k
 
   pushed_knows : (sweep : Sweep) (i q top word : ℕ) → Knows s j sweep.bound sweep.gathered → SweepKnows s d r j (pushed sizes sweep i q top word).sweep (pushed sizes sweep i q top word).ended
-  pushed_knows sweep i q top word k = of (word == head_word q top) where
+  pushed_knows sweep i q top word k = of (word == head_word sizes.tops q top) where
     of : (b : Bool) → SweepKnows s d r j (if b then sweep_on sizes sweep i else sweep_goes sweep (sweeps.PushHead (kind_of sizes i) i)).sweep (if b then sweep_on sizes sweep i else sweep_goes sweep (sweeps.PushHead (kind_of sizes i) i)).ended
     of true = on_knows sweep i k
     of false = k
@@ -164,8 +164,8 @@ module _ (sizes : Sizes) (last : ℕ) (s : Shared) (d r j : ℕ) (low : r < 8) (
     of true = look_ended_knows claim
     of false = tt
 
-  look_took_knows : (claim : Claim) (q i word : ℕ) → ClaimKnows s d r j (look_took claim q i word).claim (look_took claim q i word).ended
-  look_took_knows claim q i word = of (word == head_word q i) where
+  look_took_knows : (claim : Claim) (q i word : ℕ) → ClaimKnows s d r j (look_took sizes claim q i word).claim (look_took sizes claim q i word).ended
+  look_took_knows claim q i word = of (word == head_word sizes.tops q i) where
     of : (b : Bool) → ClaimKnows s d r j (if b then claim_goes claim (claims.StoreUsed q i) else claim_goes claim claims.ReadHead).claim (if b then claim_goes claim (claims.StoreUsed q i) else claim_goes claim claims.ReadHead).ended
     of true = tt
     of false = tt
@@ -177,7 +177,7 @@ module _ (sizes : Sizes) (last : ℕ) (s : Shared) (d r j : ℕ) (low : r < 8) (
 
   pub claim_knows : (claim : Claim) (word : ℕ) (stage : ClaimStage) → claim.stage ≡ stage → claim.sweep.scheme ≡ Warned → d < sizes.callers → FindsIn d r j word claim.sweep stage → KnowsIn s d r j claim.sweep stage
       → ClaimKnows s d r j (claim_accepts_at sizes last claim word stage).claim (claim_accepts_at sizes last claim word stage).ended
-  claim_knows claim word claims.ReadHead at warns caller found k = look_begun_knows claim (head_parts word)
+  claim_knows claim word claims.ReadHead at warns caller found k = look_begun_knows claim (head_parts sizes.tops word)
   claim_knows claim word (claims.Take q i next) at warns caller found k = look_took_knows claim q i word
   claim_knows claim word claims.Sweeps at warns caller found k =
       let turn = sweep_accepts_at sizes last claim.sweep word claim.sweep.stage in swept_knows claim turn.sweep turn.ended at (sweep_knows claim.sweep word claim.sweep.stage warns caller found k)

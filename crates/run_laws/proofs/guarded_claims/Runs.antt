@@ -7,7 +7,7 @@ use Rattle.oa_words.specs.Words.{Word, Hazard, in_row, address_of}
 use Rattle.phase_pools.specs.Accesses.{WordAccess, word_of}
 use Rattle.target_laws.proofs.local_laws.Inside.{there_is}
 use Rattle.source_machine.specs.MethodRuns.{put}
-use Rattle.source_machine.specs.Proper.{IsProper}
+use Rattle.source_machine.specs.Proper.{IsProperFor}
 use Rattle.source_machine.proofs.Places.{each_put, put_same, put_other}
 use Rattle.caller_parts.specs.declared.call.Call.{Call}
 use Rattle.caller_parts.specs.Settings.{Setting}
@@ -81,7 +81,7 @@ pub record MarkedWithPool (t : Plan) (state : CoreState) (z : Shadow) (marks : �
   pub marked : MarkedBeside t state z marks
   pub pooled : Pooled t.target t.setting state
 
-module _ (t : Plan) (plan : IsPlan t) (proper : IsProper t.text) (events_seen : EventsAreSeen t.target t.setting) (are : AreKinds t.setting.sizes) (few : t.setting.sizes.slots ≤ 4096) (news : NewsFit t.target t.setting.sizes) (suits : Suits t.setting.sizes (beginning_of t.target t.setting)) where
+module _ (t : Plan) (plan : IsPlan t) (proper : IsProperFor t.setting.sizes.callers t.text) (events_seen : EventsAreSeen t.target t.setting) (are : AreKinds t.setting.sizes) (few : t.setting.sizes.slots < t.setting.sizes.tops) (news : NewsFit t.target t.setting.sizes) (suits : Suits t.setting.sizes (beginning_of t.target t.setting)) where
   took_marked : (state behind : CoreState) (z : Shadow) (c : ℕ) (call : Call) (b : Beside t state z) (marks : ℕ → Marks) → c < t.setting.sizes.callers → AllMarked t b.w marks → (k : TookCall t state behind z c call b) → MarkedBeside t behind z marks
   took_marked state behind z c call b marks lt all k = record {
     beside = k.beside;

@@ -32,7 +32,7 @@ abbrev turn_of : Setting → Claim → (Word → ℕ) → ClaimTurn
 turn_of setting claim m = claim_accepts setting.sizes setting.last claim (m (word_of (claim_wants claim)))
 
 claim_after : (target : Target) (setting : Setting) (e : Entry) (claim : Claim) (m : Word → ℕ) → e.routine ≡ Claims claim
-    → after target setting e (m (word_of (claim_wants claim))) ≡ (claim_on setting.reclamation target (turn_of setting claim m).claim (turn_of setting claim m).ended (claim_counted (claim_takes claim (m (word_of (claim_wants claim)))) (counted e))).entry
+    → after target setting e (m (word_of (claim_wants claim))) ≡ (claim_on setting.reclamation target (turn_of setting claim m).claim (turn_of setting claim m).ended (claim_counted (claim_takes setting.sizes claim (m (word_of (claim_wants claim)))) (counted e))).entry
 unfolding after
 claim_after target setting e claim m at = ap (λ (r : Routine). (accepted setting.reclamation target setting (m (word_of (claim_wants claim))) (counted e) r).entry) at
 
@@ -65,9 +65,9 @@ claim_moves target setting before later (Steps d) claim claim' lone m at on =
     let own : later.who 0 ≡ after target setting (before.who 0) (before.memory (word_of m.0)) =
     subst (λ (who : ℕ → Entry). who 0 ≡ after target setting (before.who 0) (before.memory (word_of m.0))) (sym m.5)
     (each_put (λ i (e : Entry). i ≡ d → e ≡ after target setting (before.who i) (before.memory (word_of m.0))) before.who d (after target setting (before.who d) (before.memory (word_of m.0))) (λ is. refl) (λ i ne is. absurd (ne is)) 0 (sym first)) in
-    let goes_on : after target setting (before.who 0) (before.memory (word_of m.0)) ≡ (claim_on setting.reclamation target (turn_of setting claim before.memory).claim (turn_of setting claim before.memory).ended (claim_counted (claim_takes claim (before.memory (word_of (claim_wants claim)))) (counted (before.who 0)))).entry =
+    let goes_on : after target setting (before.who 0) (before.memory (word_of m.0)) ≡ (claim_on setting.reclamation target (turn_of setting claim before.memory).claim (turn_of setting claim before.memory).ended (claim_counted (claim_takes setting.sizes claim (before.memory (word_of (claim_wants claim)))) (counted (before.who 0)))).entry =
     ap (λ (a : WordAccess). after target setting (before.who 0) (before.memory (word_of a))) (sym wanted_is) ∙ claim_after target setting (before.who 0) claim before.memory at in
-    let end = goes setting.reclamation target (turn_of setting claim before.memory).claim claim' (turn_of setting claim before.memory).ended (claim_counted (claim_takes claim (before.memory (word_of (claim_wants claim)))) (counted (before.who 0))) (sym (ap (λ (e : Entry). e.routine) (own ∙ goes_on)) ∙ on) in
+    let end = goes setting.reclamation target (turn_of setting claim before.memory).claim claim' (turn_of setting claim before.memory).ended (claim_counted (claim_takes setting.sizes claim (before.memory (word_of (claim_wants claim)))) (counted (before.who 0))) (sym (ap (λ (e : Entry). e.routine) (own ∙ goes_on)) ∙ on) in
     (m.4 ∙ ap (made before.memory) (sym wanted_is), end.0, end.1)
 
 claiming : (r : Routine) → is_claiming r ≡ true → (claim : Claim) × (r ≡ Claims claim)

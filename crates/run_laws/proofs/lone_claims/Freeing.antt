@@ -37,8 +37,8 @@ abbrev pub IsOld : (Word → ℕ) → ℕ → ℕ → Type 0
 IsOld m i p = (q : ℕ) × (m (Status i) ≡ status_word q kinds.Retired) × (q < p)
 
 -- a slot is on top of a kind's chain
-abbrev pub HasTop : (Word → ℕ) → ℕ → Type 0
-HasTop m k = top m k ≢ 0
+abbrev pub HasTop : ℕ → (Word → ℕ) → ℕ → Type 0
+HasTop tops m k = top tops m k ≢ 0
 
 -- the sweep has gathered no slot, and recycles what was retired before the phase to which it raises
 abbrev IsBare : Sweep → Type 0
@@ -46,7 +46,7 @@ IsBare sweep = (sweep.gathered ≡ []) × (sweep.low ≡ sweep.bound)
 
 -- a slot that the sweep has made ready is of the kind, or the slot comes after it, or a slot of the kind is on top
 abbrev IsAhead : Sizes → (Word → ℕ) → ℕ → ℕ → ℕ → ℕ → Type 0
-IsAhead n m k i bound j = (kind_of n j ≡ k) ⊎ (IsOld m i bound × (i < j)) ⊎ HasTop m k
+IsAhead n m k i bound j = (kind_of n j ≡ k) ⊎ (IsOld m i bound × (i < j)) ⊎ HasTop n.tops m k
 
 -- what a sweep knows of a slot of the kind: until the slot is read it was retired before the sweep's phase, and then one of the kind is on top
 abbrev FreeSweep : Sizes → (Word → ℕ) → ℕ → ℕ → ℕ → SweepStage → Type 0
@@ -54,22 +54,22 @@ FreeSweep n m k i bound sweeps.ReadPhase = IsOld m i (m Phase + 1)
 FreeSweep n m k i bound (sweeps.RaisePhase p) = (p ≡ m Phase) × IsOld m i (m Phase + 1)
 FreeSweep n m k i bound (sweeps.Warn c) = IsOld m i bound
 FreeSweep n m k i bound (sweeps.ReadHazard c r) = (c ≡ 0) × IsOld m i bound
-FreeSweep n m k i bound (sweeps.ReadStatus j) = (1 ≤ j) × (j ≤ n.slots) × ((IsOld m i bound × (i ≤ j)) ⊎ HasTop m k)
-FreeSweep n m k i bound (sweeps.MakeReady j q) = (1 ≤ j) × (j ≤ n.slots) × (((j ≡ i) × (m (Status j) ≡ status_word q kinds.Retired)) ⊎ (IsOld m i bound × (i < j)) ⊎ HasTop m k)
+FreeSweep n m k i bound (sweeps.ReadStatus j) = (1 ≤ j) × (j ≤ n.slots) × ((IsOld m i bound × (i ≤ j)) ⊎ HasTop n.tops m k)
+FreeSweep n m k i bound (sweeps.MakeReady j q) = (1 ≤ j) × (j ≤ n.slots) × (((j ≡ i) × (m (Status j) ≡ status_word q kinds.Retired)) ⊎ (IsOld m i bound × (i < j)) ⊎ HasTop n.tops m k)
 FreeSweep n m k i bound (sweeps.PushHead h j) = (1 ≤ j) × (j ≤ n.slots) × (h ≡ kind_of n j) × IsAhead n m k i bound j
-FreeSweep n m k i bound (sweeps.PushLink j q t) = (1 ≤ j) × (j ≤ n.slots) × (m (Head (kind_of n j)) ≡ head_word q t) × IsAhead n m k i bound j
-FreeSweep n m k i bound (sweeps.PushTop h j q t) = (1 ≤ j) × (j ≤ n.slots) × (h ≡ kind_of n j) × (m (Head h) ≡ head_word q t) × IsAhead n m k i bound j
+FreeSweep n m k i bound (sweeps.PushLink j q t) = (1 ≤ j) × (j ≤ n.slots) × (m (Head (kind_of n j)) ≡ head_word n.tops q t) × IsAhead n m k i bound j
+FreeSweep n m k i bound (sweeps.PushTop h j q t) = (1 ≤ j) × (j ≤ n.slots) × (h ≡ kind_of n j) × (m (Head h) ≡ head_word n.tops q t) × IsAhead n m k i bound j
 
 abbrev FreeSwept : Sizes → (Word → ℕ) → ℕ → ℕ → Sweep → Option SweepEnd → Type 0
 FreeSwept n m k i sweep None = IsBare sweep × FreeSweep n m k i sweep.bound sweep.stage
-FreeSwept n m k i sweep (Some swept.Swept) = HasTop m k
+FreeSwept n m k i sweep (Some swept.Swept) = HasTop n.tops m k
 FreeSwept n m k i sweep (Some (swept.PhasesOver p)) = Unit {0}
 
 -- and a look: nobody else changes the heads
 abbrev FreeStage : Sizes → (Word → ℕ) → ℕ → ℕ → ℕ → Sweep → ClaimStage → Type 0
-FreeStage n m k i made sweep claims.ReadHead = ((made ≡ 0) × IsOld m i (m Phase + 1)) ⊎ HasTop m k
-FreeStage n m k i made sweep (claims.ReadLink q t) = m (Head k) ≡ head_word q t
-FreeStage n m k i made sweep (claims.Take q t next) = m (Head k) ≡ head_word q t
+FreeStage n m k i made sweep claims.ReadHead = ((made ≡ 0) × IsOld m i (m Phase + 1)) ⊎ HasTop n.tops m k
+FreeStage n m k i made sweep (claims.ReadLink q t) = m (Head k) ≡ head_word n.tops q t
+FreeStage n m k i made sweep (claims.Take q t next) = m (Head k) ≡ head_word n.tops q t
 FreeStage n m k i made sweep (claims.StoreUsed q t) = Unit {0}
 FreeStage n m k i made sweep (claims.Withdraw own) = ⊥
 FreeStage n m k i made sweep claims.Sweeps = (made ≡ 0) × IsBare sweep × FreeSweep n m k i sweep.bound sweep.stage
@@ -80,7 +80,7 @@ FreeOn n m i claim (Some (ends.Claimed j)) = Unit {0}
 FreeOn n m i claim (Some ends.Full) = ⊥
 FreeOn n m i claim (Some (ends.PhasesOver p)) = Unit {0}
 
-module _ (n : Sizes) (i : ℕ) (least : 1 ≤ i) (most : i ≤ n.slots) (few : n.slots ≤ 4096) (lone : n.callers ≡ 1) where
+module _ (n : Sizes) (i : ℕ) (least : 1 ≤ i) (most : i ≤ n.slots) (few : n.slots < n.tops) (lone : n.callers ≡ 1) where
   -- ---- looks, of claims whose sweeps warn the callers
 
   look_first : (m : Word → ℕ) (claim : Claim) → claim.sweep.scheme ≡ Warned → claim.sweeps ≡ 0 → IsOld m i (m Phase + 1) → FreeOn n m i (look_ended claim).claim (look_ended claim).ended
@@ -94,27 +94,27 @@ module _ (n : Sizes) (i : ℕ) (least : 1 ≤ i) (most : i ≤ n.slots) (few : n
     first false is = sweeps_first claim.sweep.scheme warns
 
   looks : (m : Word → ℕ) (claim : Claim) → claim.sweep.scheme ≡ Warned → FreeStage n m claim.kind i claim.sweeps claim.sweep claims.ReadHead
-      → FreeOn n m i (look_begun claim (head_parts (m (Head claim.kind)))).claim (look_begun claim (head_parts (m (Head claim.kind)))).ended
-  looks m claim warns at = looked (head_parts (m (Head claim.kind))) refl where
-    looked : (parts : HeadParts) → head_parts (m (Head claim.kind)) ≡ parts → FreeOn n m i (look_begun claim parts).claim (look_begun claim parts).ended
+      → FreeOn n m i (look_begun claim (head_parts n.tops (m (Head claim.kind)))).claim (look_begun claim (head_parts n.tops (m (Head claim.kind)))).ended
+  looks m claim warns at = looked (head_parts n.tops (m (Head claim.kind))) refl where
+    looked : (parts : HeadParts) → head_parts n.tops (m (Head claim.kind)) ≡ parts → FreeOn n m i (look_begun claim parts).claim (look_begun claim parts).ended
     looked parts same = of (parts.top == 0) refl at where
       of : (b : Bool) → (parts.top == 0) ≡ b → FreeStage n m claim.kind i claim.sweeps claim.sweep claims.ReadHead
           → FreeOn n m i (if b then look_ended claim else claim_goes claim (claims.ReadLink parts.phase parts.top)).claim (if b then look_ended claim else claim_goes claim (claims.ReadLink parts.phase parts.top)).ended
       of true is (inl first) = look_first m claim warns first.0 first.1
       of true is (inr some) = absurd (some (ap (λ (p : HeadParts). p.top) same ∙ grind (arith, nat_tests)))
-      of false is at = sym (head_whole (m (Head claim.kind))) ∙ ap (λ (p : HeadParts). head_word p.phase p.top) same
+      of false is at = sym (head_whole n.tops (m (Head claim.kind))) ∙ ap (λ (p : HeadParts). head_word n.tops p.phase p.top) same
 
   -- ---- sweeps
 
   -- a slot is on top after it was put there
-  put_on_top : (m : Word → ℕ) (h q j : ℕ) → 1 ≤ j → j ≤ n.slots → HasTop (store m (Head h) (head_word q j)) h
+  put_on_top : (m : Word → ℕ) (h q j : ℕ) → 1 ≤ j → j ≤ n.slots → HasTop n.tops (store m (Head h) (head_word n.tops q j)) h
   put_on_top m h q j low high z =
-      let there : top (store m (Head h) (head_word q j)) h ≡ j = ap (λ (word : ℕ). (head_parts word).top) (head_here m h (head_word q j)) ∙ ap (λ (parts : HeadParts). parts.top) (head_back q j (omega (arith, high, few))) in
+      let there : top n.tops (store m (Head h) (head_word n.tops q j)) h ≡ j = ap (λ (word : ℕ). (head_parts n.tops word).top) (head_here m h (head_word n.tops q j)) ∙ ap (λ (parts : HeadParts). parts.top) (head_back n.tops q j (omega (arith, high, few))) in
       let zero : j ≡ 0 = sym there ∙ z in
       omega (arith, low, zero)
 
   module _ (k : ℕ) (own : kind_of n i ≡ k) where
-    swept_free : (m : Word → ℕ) (sweep : Sweep) (j : ℕ) → IsBare sweep → j ≤ n.slots → HasTop m k → FreeSwept n m k i (sweep_on n sweep j).sweep (sweep_on n sweep j).ended
+    swept_free : (m : Word → ℕ) (sweep : Sweep) (j : ℕ) → IsBare sweep → j ≤ n.slots → HasTop n.tops m k → FreeSwept n m k i (sweep_on n sweep j).sweep (sweep_on n sweep j).ended
     swept_free m sweep j none le some = from_slot (λ turn. FreeSwept n m k i turn.sweep turn.ended) n sweep j (λ more. (none, (omega (arith, more), omega (arith, le), inr some))) some
 
     swept_old : (m : Word → ℕ) (sweep : Sweep) (j : ℕ) → IsBare sweep → j ≤ n.slots → IsOld m i sweep.bound → i < j → FreeSwept n m k i (sweep_on n sweep j).sweep (sweep_on n sweep j).ended
@@ -133,7 +133,7 @@ module _ (n : Sizes) (i : ℕ) (least : 1 ≤ i) (most : i ≤ n.slots) (few : n
         let away : has_slot sweep.gathered i ≡ false = ap (λ (g : List ℕ). has_slot g i) none.0 in
         rw (below, away) (none, (least, most, inl (refl, is)))
 
-    reads_status : (m : Word → ℕ) (sweep : Sweep) (j : ℕ) → IsBare sweep → 1 ≤ j → j ≤ n.slots → (IsOld m i sweep.bound × (i ≤ j)) ⊎ HasTop m k
+    reads_status : (m : Word → ℕ) (sweep : Sweep) (j : ℕ) → IsBare sweep → 1 ≤ j → j ≤ n.slots → (IsOld m i sweep.bound × (i ≤ j)) ⊎ HasTop n.tops m k
         → FreeSwept n m k i (status_read n sweep j (status_parts (m (Status j)))).sweep (status_read n sweep j (status_parts (m (Status j)))).ended
     reads_status m sweep j none low high (inl old) = ⊎_elim
         (λ (e : j ≡ i). subst (λ (l : ℕ). FreeSwept n m k i (status_read n sweep l (status_parts (m (Status l)))).sweep (status_read n sweep l (status_parts (m (Status l)))).ended) (sym e)
@@ -152,9 +152,9 @@ module _ (n : Sizes) (i : ℕ) (least : 1 ≤ i) (most : i ≤ n.slots) (few : n
     old_still m j v bound old lt = let ne : j ≢ i = (λ e. (let no : ⊥ = omega (arith, lt, e) in no)) in (old.0, other_status m j v ne ∙ old.1, old.2)
 
     exchanges : (m : Word → ℕ) (sweep : Sweep) (j q : ℕ) → IsBare sweep → FreeSweep n m k i sweep.bound (sweeps.MakeReady j q)
-        → FreeSwept n (made m (sweep_wants_at sweep.scheme (sweeps.MakeReady j q) sweep.bound)) k i (made_ready n sweep j q (m (Status j))).sweep (made_ready n sweep j q (m (Status j))).ended
+        → FreeSwept n (made m (sweep_wants_at sweep.tops sweep.scheme (sweeps.MakeReady j q) sweep.bound)) k i (made_ready n sweep j q (m (Status j))).sweep (made_ready n sweep j q (m (Status j))).ended
     exchanges m sweep j q none at = of (m (Status j) == status_word q kinds.Retired) refl at.2 where
-      of : (b : Bool) → (m (Status j) == status_word q kinds.Retired) ≡ b → ((j ≡ i) × (m (Status j) ≡ status_word q kinds.Retired)) ⊎ (IsOld m i sweep.bound × (i < j)) ⊎ HasTop m k
+      of : (b : Bool) → (m (Status j) == status_word q kinds.Retired) ≡ b → ((j ≡ i) × (m (Status j) ≡ status_word q kinds.Retired)) ⊎ (IsOld m i sweep.bound × (i < j)) ⊎ HasTop n.tops m k
           → FreeSwept n (store m (Status j) (if b then status_word sweep.bound kinds.Ready else m (Status j))) k i (if b then sweep_goes sweep (sweeps.PushHead (kind_of n j) j) else sweep_on n sweep j).sweep (if b then sweep_goes sweep (sweeps.PushHead (kind_of n j) j) else sweep_on n sweep j).ended
       of true is (inl here) = (none, (at.0, at.1, refl, inl (ap (kind_of n) here.0 ∙ own)))
       of true is (inr (inl old)) = (none, (at.0, at.1, refl, inr (inl (old_still m j (status_word sweep.bound kinds.Ready) sweep.bound old.0 old.1, old.1))))
@@ -164,22 +164,23 @@ module _ (n : Sizes) (i : ℕ) (least : 1 ≤ i) (most : i ≤ n.slots) (few : n
       of false is (inr (inr some)) = swept_free (store m (Status j) (m (Status j))) sweep j none at.1 some
 
     -- nobody else changes the heads, so that the push succeeds
-    pushes : (m : Word → ℕ) (sweep : Sweep) (h j q t : ℕ) → IsBare sweep → FreeSweep n m k i sweep.bound (sweeps.PushTop h j q t)
-        → FreeSwept n (made m (sweep_wants_at sweep.scheme (sweeps.PushTop h j q t) sweep.bound)) k i (pushed n sweep j q t (m (Head h))).sweep (pushed n sweep j q t (m (Head h))).ended
-    pushes m sweep h j q t none at =
-        let hit : (m (Head h) == head_word q t) ≡ true = (let e = at.3 in grind (arith, nat_tests, e)) in
-        rw hit (put (head_word (max q sweep.bound) j) (put_on_top m h (max q sweep.bound) j at.0 at.1))
+    pushes : (m : Word → ℕ) (sweep : Sweep) (tops h j q t : ℕ) → tops ≡ n.tops → IsBare sweep → FreeSweep n m k i sweep.bound (sweeps.PushTop h j q t)
+        → FreeSwept n (made m (sweep_wants_at tops sweep.scheme (sweeps.PushTop h j q t) sweep.bound)) k i (pushed n sweep j q t (m (Head h))).sweep (pushed n sweep j q t (m (Head h))).ended
+    pushes m sweep tops h j q t same none at =
+        let hit : (m (Head h) == head_word n.tops q t) ≡ true = (let e = at.3 in grind (arith, nat_tests, e)) in
+        subst (λ (l : ℕ). FreeSwept n (made m (sweep_wants_at l sweep.scheme (sweeps.PushTop h j q t) sweep.bound)) k i (pushed n sweep j q t (m (Head h))).sweep (pushed n sweep j q t (m (Head h))).ended) (sym same)
+        (rw hit (put (head_word n.tops (max q sweep.bound) j) (put_on_top m h (max q sweep.bound) j at.0 at.1)))
       where
-        put : (word : ℕ) → HasTop (store m (Head h) word) h → FreeSwept n (store m (Head h) word) k i (sweep_on n sweep j).sweep (sweep_on n sweep j).ended
+        put : (word : ℕ) → HasTop n.tops (store m (Head h) word) h → FreeSwept n (store m (Head h) word) k i (sweep_on n sweep j).sweep (sweep_on n sweep j).ended
         put word there = ⊎_elim
-            (λ (same : h ≡ k). swept_free (store m (Head h) word) sweep j none at.1 (subst (HasTop (store m (Head h) word)) same there))
+            (λ (same : h ≡ k). swept_free (store m (Head h) word) sweep j none at.1 (subst (HasTop n.tops (store m (Head h) word)) same there))
             (λ (ne : h ≢ k). elsewhere ne at.4)
             (cases_eq h k)
           where
             elsewhere : h ≢ k → IsAhead n m k i sweep.bound j → FreeSwept n (store m (Head h) word) k i (sweep_on n sweep j).sweep (sweep_on n sweep j).ended
             elsewhere ne (inl same) = absurd (ne (at.2 ∙ same))
             elsewhere ne (inr (inl old)) = swept_old (store m (Head h) word) sweep j none at.1 old.0 old.1
-            elsewhere ne (inr (inr some)) = swept_free (store m (Head h) word) sweep j none at.1 (λ z. some (sym (ap (λ (word : ℕ). (head_parts word).top) (head_other m h word k (λ e. ne (sym e)))) ∙ z))
+            elsewhere ne (inr (inr some)) = swept_free (store m (Head h) word) sweep j none at.1 (λ z. some (sym (ap (λ (word : ℕ). (head_parts n.tops word).top) (head_other m h word k (λ e. ne (sym e)))) ∙ z))
 
     -- no hazard word of the caller is set
     abbrev NoHazards : (Word → ℕ) → Type 0
@@ -199,31 +200,31 @@ module _ (n : Sizes) (i : ℕ) (least : 1 ≤ i) (most : i ≤ n.slots) (few : n
         of false false is = (omega (arith, least, most), omega arith, inl (old, most))
 
     warned_all : (m : Word → ℕ) (sweep : Sweep) (c : ℕ) (scheme : Scheme) → scheme ≡ Warned → sweep.scheme ≡ scheme → IsBare sweep → IsOld m i sweep.bound
-        → FreeSwept n (made m (sweep_wants_at scheme (sweeps.Warn c) sweep.bound)) k i (sweep_accepts_at n 0 sweep (m (word_of (sweep_wants_at scheme (sweeps.Warn c) sweep.bound))) (sweeps.Warn c)).sweep
-        (sweep_accepts_at n 0 sweep (m (word_of (sweep_wants_at scheme (sweeps.Warn c) sweep.bound))) (sweeps.Warn c)).ended
+        → FreeSwept n (made m (sweep_wants_at sweep.tops scheme (sweeps.Warn c) sweep.bound)) k i (sweep_accepts_at n 0 sweep (m (word_of (sweep_wants_at sweep.tops scheme (sweeps.Warn c) sweep.bound))) (sweeps.Warn c)).sweep
+        (sweep_accepts_at n 0 sweep (m (word_of (sweep_wants_at sweep.tops scheme (sweeps.Warn c) sweep.bound))) (sweeps.Warn c)).ended
     warned_all m sweep c scheme warns is none old = rw (warns, is ∙ warns) (none, of (nat_lt (c + 1) n.callers)) where
-      of : (b : Bool) → FreeSweep n (made m (sweep_wants_at Warned (sweeps.Warn c) sweep.bound)) k i sweep.bound (if b then sweeps.Warn (c + 1) else sweeps.ReadHazard 0 0)
+      of : (b : Bool) → FreeSweep n (made m (sweep_wants_at sweep.tops Warned (sweeps.Warn c) sweep.bound)) k i sweep.bound (if b then sweeps.Warn (c + 1) else sweeps.ReadHazard 0 0)
       of true = old
       of false = (refl, old)
 
-    sweeps_on : (last : ℕ) (m : Word → ℕ) (sweep : Sweep) (stage : SweepStage) → sweep.scheme ≡ Warned → NoHazards m → IsBare sweep → FreeSweep n m k i sweep.bound stage
-        → FreeSwept n (made m (sweep_wants_at sweep.scheme stage sweep.bound)) k i (sweep_accepts_at n last sweep (m (word_of (sweep_wants_at sweep.scheme stage sweep.bound))) stage).sweep
-        (sweep_accepts_at n last sweep (m (word_of (sweep_wants_at sweep.scheme stage sweep.bound))) stage).ended
-    sweeps_on last m sweep sweeps.ReadPhase warns zeros none at = subst (λ (w : Word → ℕ). FreeSwept n w k i (phase_read last sweep (m Phase)).sweep (phase_read last sweep (m Phase)).ended) (store_idle m Phase) (of (m Phase == last)) where
+    sweeps_on : (last : ℕ) (m : Word → ℕ) (sweep : Sweep) (stage : SweepStage) → sweep.scheme ≡ Warned → sweep.tops ≡ n.tops → NoHazards m → IsBare sweep → FreeSweep n m k i sweep.bound stage
+        → FreeSwept n (made m (sweep_wants_at sweep.tops sweep.scheme stage sweep.bound)) k i (sweep_accepts_at n last sweep (m (word_of (sweep_wants_at sweep.tops sweep.scheme stage sweep.bound))) stage).sweep
+        (sweep_accepts_at n last sweep (m (word_of (sweep_wants_at sweep.tops sweep.scheme stage sweep.bound))) stage).ended
+    sweeps_on last m sweep sweeps.ReadPhase warns same zeros none at = subst (λ (w : Word → ℕ). FreeSwept n w k i (phase_read last sweep (m Phase)).sweep (phase_read last sweep (m Phase)).ended) (store_idle m Phase) (of (m Phase == last)) where
       of : (b : Bool) → FreeSwept n m k i (if b then sweep_ends sweep (swept.PhasesOver (m Phase)) else sweep_goes sweep (sweeps.RaisePhase (m Phase))).sweep (if b then sweep_ends sweep (swept.PhasesOver (m Phase)) else sweep_goes sweep (sweeps.RaisePhase (m Phase))).ended
       of true = tt
       of false = (none, (refl, at))
-    sweeps_on last m sweep (sweeps.RaisePhase p) warns zeros none at = let is = at.0 in let lt = at.1.2 in ((none.0, refl), (at.1.0, at.1.1, omega (arith, is, lt)))
-    sweeps_on last m sweep (sweeps.Warn c) warns zeros none at = warned_all m sweep c sweep.scheme warns refl none at
-    sweeps_on last m sweep (sweeps.ReadHazard c r) warns zeros none at = subst (λ (w : Word → ℕ). FreeSwept n w k i (sweep_accepts_at n last sweep (m (Hazard c r)) (sweeps.ReadHazard c r)).sweep (sweep_accepts_at n last sweep (m (Hazard c r)) (sweeps.ReadHazard c r)).ended) (store_idle m (Hazard c r))
+    sweeps_on last m sweep (sweeps.RaisePhase p) warns same zeros none at = let is = at.0 in let lt = at.1.2 in ((none.0, refl), (at.1.0, at.1.1, omega (arith, is, lt)))
+    sweeps_on last m sweep (sweeps.Warn c) warns same zeros none at = warned_all m sweep c sweep.scheme warns refl none at
+    sweeps_on last m sweep (sweeps.ReadHazard c r) warns same zeros none at = subst (λ (w : Word → ℕ). FreeSwept n w k i (sweep_accepts_at n last sweep (m (Hazard c r)) (sweeps.ReadHazard c r)).sweep (sweep_accepts_at n last sweep (m (Hazard c r)) (sweeps.ReadHazard c r)).ended) (store_idle m (Hazard c r))
         (hazards m sweep c r none zeros at.0 at.1)
-    sweeps_on last m sweep (sweeps.ReadStatus j) warns zeros none at = subst (λ (w : Word → ℕ). FreeSwept n w k i (status_read n sweep j (status_parts (m (Status j)))).sweep (status_read n sweep j (status_parts (m (Status j)))).ended) (store_idle m (Status j))
+    sweeps_on last m sweep (sweeps.ReadStatus j) warns same zeros none at = subst (λ (w : Word → ℕ). FreeSwept n w k i (status_read n sweep j (status_parts (m (Status j)))).sweep (status_read n sweep j (status_parts (m (Status j)))).ended) (store_idle m (Status j))
         (reads_status m sweep j none at.0 at.1 at.2)
-    sweeps_on last m sweep (sweeps.MakeReady j q) warns zeros none at = exchanges m sweep j q none at
-    sweeps_on last m sweep (sweeps.PushHead h j) warns zeros none at = subst (λ (w : Word → ℕ). FreeSwept n w k i (push_read sweep j (head_parts (m (Head h)))).sweep (push_read sweep j (head_parts (m (Head h)))).ended) (store_idle m (Head h))
-        (none, (at.0, at.1, ap (λ (l : ℕ). m (Head l)) (sym at.2) ∙ sym (head_whole (m (Head h))), at.3))
-    sweeps_on last m sweep (sweeps.PushLink j q t) warns zeros none at = (none, (at.0, at.1, refl, at.2, at.3))
-    sweeps_on last m sweep (sweeps.PushTop h j q t) warns zeros none at = pushes m sweep h j q t none at
+    sweeps_on last m sweep (sweeps.MakeReady j q) warns same zeros none at = exchanges m sweep j q none at
+    sweeps_on last m sweep (sweeps.PushHead h j) warns same zeros none at = subst (λ (w : Word → ℕ). FreeSwept n w k i (push_read sweep j (head_parts n.tops (m (Head h)))).sweep (push_read sweep j (head_parts n.tops (m (Head h)))).ended) (store_idle m (Head h))
+        (none, (at.0, at.1, ap (λ (l : ℕ). m (Head l)) (sym at.2) ∙ sym (head_whole n.tops (m (Head h))), at.3))
+    sweeps_on last m sweep (sweeps.PushLink j q t) warns same zeros none at = (none, (at.0, at.1, refl, at.2, at.3))
+    sweeps_on last m sweep (sweeps.PushTop h j q t) warns same zeros none at = pushes m sweep sweep.tops h j q t same none at
 
   -- ---- the claim
 
@@ -232,31 +233,31 @@ module _ (n : Sizes) (i : ℕ) (least : 1 ≤ i) (most : i ≤ n.slots) (few : n
   sweep_done m claim sweep (Some swept.Swept) is zero_is on = inr on
   sweep_done m claim sweep (Some (swept.PhasesOver p)) is zero_is on = tt
 
-  turns : (last : ℕ) (m : Word → ℕ) (claim : Claim) (stage : ClaimStage) → claim.stage ≡ stage → kind_of n i ≡ claim.kind → claim.sweep.scheme ≡ Warned → ((r : ℕ) → m (Hazard 0 r) ≡ 0) → FreeStage n m claim.kind i claim.sweeps claim.sweep stage
-      → FreeOn n (made m (claim_wants_at claim.kind claim.sweep stage)) i (claim_accepts_at n last claim (m (word_of (claim_wants_at claim.kind claim.sweep stage))) stage).claim (claim_accepts_at n last claim (m (word_of (claim_wants_at claim.kind claim.sweep stage))) stage).ended
-  turns last m claim claims.ReadHead is own warns zeros at =
-      subst (λ (w : Word → ℕ). FreeOn n w i (look_begun claim (head_parts (m (Head claim.kind)))).claim (look_begun claim (head_parts (m (Head claim.kind)))).ended) (store_idle m (Head claim.kind)) (looks m claim warns at)
-  turns last m claim (claims.ReadLink q t) is own warns zeros at = at
-  turns last m claim (claims.Take q t next) is own warns zeros at =
-      let hit : (m (Head claim.kind) == head_word q t) ≡ true = grind (arith, nat_tests, at) in
+  turns : (last : ℕ) (m : Word → ℕ) (claim : Claim) (stage : ClaimStage) → claim.stage ≡ stage → kind_of n i ≡ claim.kind → claim.sweep.scheme ≡ Warned → claim.sweep.tops ≡ n.tops → ((r : ℕ) → m (Hazard 0 r) ≡ 0) → FreeStage n m claim.kind i claim.sweeps claim.sweep stage
+      → FreeOn n (made m (claim_wants_at claim.sweep.tops claim.kind claim.sweep stage)) i (claim_accepts_at n last claim (m (word_of (claim_wants_at claim.sweep.tops claim.kind claim.sweep stage))) stage).claim (claim_accepts_at n last claim (m (word_of (claim_wants_at claim.sweep.tops claim.kind claim.sweep stage))) stage).ended
+  turns last m claim claims.ReadHead is own warns same zeros at =
+      subst (λ (w : Word → ℕ). FreeOn n w i (look_begun claim (head_parts n.tops (m (Head claim.kind)))).claim (look_begun claim (head_parts n.tops (m (Head claim.kind)))).ended) (store_idle m (Head claim.kind)) (looks m claim warns at)
+  turns last m claim (claims.ReadLink q t) is own warns same zeros at = at
+  turns last m claim (claims.Take q t next) is own warns same zeros at =
+      let hit : (m (Head claim.kind) == head_word n.tops q t) ≡ true = grind (arith, nat_tests, at) in
       rw hit tt
-  turns last m claim (claims.StoreUsed q t) is own warns zeros at = tt
-  turns last m claim (claims.Withdraw caller) is own warns zeros at = absurd at
-  turns last m claim claims.Sweeps is own warns zeros at =
-      let turn = sweep_accepts_at n last claim.sweep (m (word_of (sweep_wants_at claim.sweep.scheme claim.sweep.stage claim.sweep.bound))) claim.sweep.stage in
-      sweep_done (made m (sweep_wants_at claim.sweep.scheme claim.sweep.stage claim.sweep.bound)) claim turn.sweep turn.ended is at.0 (sweeps_on claim.kind own last m claim.sweep claim.sweep.stage warns zeros at.1 at.2)
+  turns last m claim (claims.StoreUsed q t) is own warns same zeros at = tt
+  turns last m claim (claims.Withdraw caller) is own warns same zeros at = absurd at
+  turns last m claim claims.Sweeps is own warns same zeros at =
+      let turn = sweep_accepts_at n last claim.sweep (m (word_of (sweep_wants_at claim.sweep.tops claim.sweep.scheme claim.sweep.stage claim.sweep.bound))) claim.sweep.stage in
+      sweep_done (made m (sweep_wants_at claim.sweep.tops claim.sweep.scheme claim.sweep.stage claim.sweep.bound)) claim turn.sweep turn.ended is at.0 (sweeps_on claim.kind own last m claim.sweep claim.sweep.stage warns same zeros at.1 at.2)
 
   -- its accesses leave the hazard words as they are
   warning_spares : (m : Word → ℕ) (scheme : Scheme) (c bound r : ℕ) → made m (warn_wanted scheme c bound) (Hazard 0 r) ≡ m (Hazard 0 r)
   warning_spares m Warned c bound r = refl
   warning_spares m (Announced own) c bound r = refl
 
-  sweep_spares : (m : Word → ℕ) (sweep : Sweep) (stage : SweepStage) (r : ℕ) → made m (sweep_wants_at sweep.scheme stage sweep.bound) (Hazard 0 r) ≡ m (Hazard 0 r)
+  sweep_spares : (m : Word → ℕ) (sweep : Sweep) (stage : SweepStage) (r : ℕ) → made m (sweep_wants_at sweep.tops sweep.scheme stage sweep.bound) (Hazard 0 r) ≡ m (Hazard 0 r)
   sweep_spares m sweep (sweeps.Warn c) r = warning_spares m sweep.scheme c sweep.bound r
   sweep_spares m sweep (sweeps.ReadHazard c k) r = sym (ap (λ (w : Word → ℕ). w (Hazard 0 r)) (store_idle m (Hazard c k)))
   sweep_spares m sweep _ r = refl
 
-  spares : (m : Word → ℕ) (k : ℕ) (sweep : Sweep) (stage : ClaimStage) (r : ℕ) → made m (claim_wants_at k sweep stage) (Hazard 0 r) ≡ m (Hazard 0 r)
+  spares : (m : Word → ℕ) (k : ℕ) (sweep : Sweep) (stage : ClaimStage) (r : ℕ) → made m (claim_wants_at sweep.tops k sweep stage) (Hazard 0 r) ≡ m (Hazard 0 r)
   spares m k sweep claims.Sweeps r = sweep_spares m sweep sweep.stage r
   spares m k sweep _ r = refl
 
@@ -264,21 +265,23 @@ module _ (n : Sizes) (i : ℕ) (least : 1 ≤ i) (most : i ≤ n.slots) (few : n
   pub record Frees (m : Word → ℕ) (claim : Claim) : Type 0 where
     pub own : kind_of n i ≡ claim.kind
     pub warns : claim.sweep.scheme ≡ Warned
+    pub tops : claim.sweep.tops ≡ n.tops
     pub zeros : (r : ℕ) → m (Hazard 0 r) ≡ 0
     pub at : FreeStage n m claim.kind i claim.sweeps claim.sweep claim.stage
 
-  pub frees_on : (last : ℕ) (m : Word → ℕ) (claim : Claim) → Frees m claim → (claim_accepts_at n last claim (m (word_of (claim_wants_at claim.kind claim.sweep claim.stage))) claim.stage).ended ≡ None
-      → Frees (made m (claim_wants_at claim.kind claim.sweep claim.stage)) (claim_accepts_at n last claim (m (word_of (claim_wants_at claim.kind claim.sweep claim.stage))) claim.stage).claim
+  pub frees_on : (last : ℕ) (m : Word → ℕ) (claim : Claim) → Frees m claim → (claim_accepts_at n last claim (m (word_of (claim_wants_at claim.sweep.tops claim.kind claim.sweep claim.stage))) claim.stage).ended ≡ None
+      → Frees (made m (claim_wants_at claim.sweep.tops claim.kind claim.sweep claim.stage)) (claim_accepts_at n last claim (m (word_of (claim_wants_at claim.sweep.tops claim.kind claim.sweep claim.stage))) claim.stage).claim
   frees_on last m claim f is =
-      let stays = claim_stays n last claim (m (word_of (claim_wants_at claim.kind claim.sweep claim.stage))) in
+      let stays = claim_stays n last claim (m (word_of (claim_wants_at claim.sweep.tops claim.kind claim.sweep claim.stage))) in
       record {
         own = f.own ∙ sym stays.kind;
         warns = stays.scheme ∙ f.warns;
+        tops = stays.tops ∙ f.tops;
         zeros = λ r. spares m claim.kind claim.sweep claim.stage r ∙ f.zeros r;
-        at = subst (λ (o : Option ClaimEnd). FreeOn n (made m (claim_wants_at claim.kind claim.sweep claim.stage)) i (claim_accepts_at n last claim (m (word_of (claim_wants_at claim.kind claim.sweep claim.stage))) claim.stage).claim o) is
-            (turns last m claim claim.stage refl f.own f.warns f.zeros f.at);
+        at = subst (λ (o : Option ClaimEnd). FreeOn n (made m (claim_wants_at claim.sweep.tops claim.kind claim.sweep claim.stage)) i (claim_accepts_at n last claim (m (word_of (claim_wants_at claim.sweep.tops claim.kind claim.sweep claim.stage))) claim.stage).claim o) is
+            (turns last m claim claim.stage refl f.own f.warns f.tops f.zeros f.at);
       }
 
-  pub frees_full : (last : ℕ) (m : Word → ℕ) (claim : Claim) → Frees m claim → (claim_accepts_at n last claim (m (word_of (claim_wants_at claim.kind claim.sweep claim.stage))) claim.stage).ended ≡ Some ends.Full → ⊥
-  frees_full last m claim f is = subst (λ (o : Option ClaimEnd). FreeOn n (made m (claim_wants_at claim.kind claim.sweep claim.stage)) i (claim_accepts_at n last claim (m (word_of (claim_wants_at claim.kind claim.sweep claim.stage))) claim.stage).claim o) is
-      (turns last m claim claim.stage refl f.own f.warns f.zeros f.at)
+  pub frees_full : (last : ℕ) (m : Word → ℕ) (claim : Claim) → Frees m claim → (claim_accepts_at n last claim (m (word_of (claim_wants_at claim.sweep.tops claim.kind claim.sweep claim.stage))) claim.stage).ended ≡ Some ends.Full → ⊥
+  frees_full last m claim f is = subst (λ (o : Option ClaimEnd). FreeOn n (made m (claim_wants_at claim.sweep.tops claim.kind claim.sweep claim.stage)) i (claim_accepts_at n last claim (m (word_of (claim_wants_at claim.sweep.tops claim.kind claim.sweep claim.stage))) claim.stage).claim o) is
+      (turns last m claim claim.stage refl f.own f.warns f.tops f.zeros f.at)

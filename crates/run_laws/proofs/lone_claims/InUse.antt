@@ -234,27 +234,27 @@ module _ (t : Plan) (c : ℕ) (s : Shared) (x : Caller) (memory' : Word → ℕ)
   by_warning Warned d bound makes names before = quietly (left (Some (Raises (Warning d) bound)) (Raises (Warning d) bound) refl refl makes) names before
   by_warning (Announced own) d bound makes names before = quietly (left (Some (Loads (Warning d))) (Loads (Warning d)) refl refl makes) names before
 
-  by_sweep : (scheme : Scheme) (stage : SweepStage) (bound : ℕ) → memory' ≡ after_access s.memory (sweep_wants_at scheme stage bound) → present' ≡ freed_in claims.Sweeps stage s.memory s.present → Before ⊥ → After
-  by_sweep scheme sweeps.ReadPhase bound makes names before = quietly (left (Some (Loads Phase)) (Loads Phase) refl refl makes) names before
-  by_sweep scheme (sweeps.RaisePhase p) bound makes names before = quietly (left (Some (Exchanges Phase p (p + 1))) (Exchanges Phase p (p + 1)) refl refl makes) names before
-  by_sweep scheme (sweeps.Warn d) bound makes names before = by_warning scheme d bound makes names before
-  by_sweep scheme (sweeps.ReadHazard d r) bound makes names before = quietly (left (Some (Loads (Hazard d r))) (Loads (Hazard d r)) refl refl makes) names before
-  by_sweep scheme (sweeps.ReadStatus i) bound makes names before = quietly (idle_store i makes) names before
-  by_sweep scheme (sweeps.MakeReady i q) bound makes names before = by_freeing i q bound makes names before
-  by_sweep scheme (sweeps.PushHead h i) bound makes names before = quietly (left (Some (Loads (Head h))) (Loads (Head h)) refl refl makes) names before
-  by_sweep scheme (sweeps.PushLink i q top) bound makes names before = quietly (left (Some (Stores (Link i) top)) (Stores (Link i) top) refl refl makes) names before
-  by_sweep scheme (sweeps.PushTop h i q top) bound makes names before =
-      quietly (left (Some (sweep_wants_at scheme (sweeps.PushTop h i q top) bound)) (sweep_wants_at scheme (sweeps.PushTop h i q top) bound) refl refl makes) names before
+  by_sweep : (tops : ℕ) (scheme : Scheme) (stage : SweepStage) (bound : ℕ) → memory' ≡ after_access s.memory (sweep_wants_at tops scheme stage bound) → present' ≡ freed_in claims.Sweeps stage s.memory s.present → Before ⊥ → After
+  by_sweep tops scheme sweeps.ReadPhase bound makes names before = quietly (left (Some (Loads Phase)) (Loads Phase) refl refl makes) names before
+  by_sweep tops scheme (sweeps.RaisePhase p) bound makes names before = quietly (left (Some (Exchanges Phase p (p + 1))) (Exchanges Phase p (p + 1)) refl refl makes) names before
+  by_sweep tops scheme (sweeps.Warn d) bound makes names before = by_warning scheme d bound makes names before
+  by_sweep tops scheme (sweeps.ReadHazard d r) bound makes names before = quietly (left (Some (Loads (Hazard d r))) (Loads (Hazard d r)) refl refl makes) names before
+  by_sweep tops scheme (sweeps.ReadStatus i) bound makes names before = quietly (idle_store i makes) names before
+  by_sweep tops scheme (sweeps.MakeReady i q) bound makes names before = by_freeing i q bound makes names before
+  by_sweep tops scheme (sweeps.PushHead h i) bound makes names before = quietly (left (Some (Loads (Head h))) (Loads (Head h)) refl refl makes) names before
+  by_sweep tops scheme (sweeps.PushLink i q top) bound makes names before = quietly (left (Some (Stores (Link i) top)) (Stores (Link i) top) refl refl makes) names before
+  by_sweep tops scheme (sweeps.PushTop h i q top) bound makes names before =
+      quietly (left (Some (sweep_wants_at tops scheme (sweeps.PushTop h i q top) bound)) (sweep_wants_at tops scheme (sweeps.PushTop h i q top) bound) refl refl makes) names before
 
-  by_claim : (claim : Claim) (stage : ClaimStage) → claim.stage ≡ stage → memory' ≡ after_access s.memory (claim_wants_at claim.kind claim.sweep stage)
-      → m ≡ claimed Optimistic t.target (claim_accepts_at t.setting.sizes t.setting.last claim (s.memory (word_of (claim_wants_at claim.kind claim.sweep stage))) stage) (claim_counted (takes_at stage (s.memory (word_of (claim_wants_at claim.kind claim.sweep stage)))) (counted x.entry))
+  by_claim : (claim : Claim) (stage : ClaimStage) → claim.stage ≡ stage → memory' ≡ after_access s.memory (claim_wants_at claim.sweep.tops claim.kind claim.sweep stage)
+      → m ≡ claimed Optimistic t.target (claim_accepts_at t.setting.sizes t.setting.last claim (s.memory (word_of (claim_wants_at claim.sweep.tops claim.kind claim.sweep stage))) stage) (claim_counted (takes_at t.setting.sizes.tops stage (s.memory (word_of (claim_wants_at claim.sweep.tops claim.kind claim.sweep stage)))) (counted x.entry))
       → present' ≡ freed_in stage claim.sweep.stage s.memory s.present → Before ⊥ → After
   by_claim claim claims.ReadHead at makes moves names before = quietly (left (Some (Loads (Head claim.kind))) (Loads (Head claim.kind)) refl refl makes) names before
   by_claim claim (claims.ReadLink q i) at makes moves names before = quietly (left (Some (Loads (Link i))) (Loads (Link i)) refl refl makes) names before
-  by_claim claim (claims.Take q i next) at makes moves names before = quietly (left (Some (Exchanges (Head claim.kind) (head_word q i) (head_word q next))) (Exchanges (Head claim.kind) (head_word q i) (head_word q next)) refl refl makes) names before
+  by_claim claim (claims.Take q i next) at makes moves names before = quietly (left (Some (Exchanges (Head claim.kind) (head_word claim.sweep.tops q i) (head_word claim.sweep.tops q next))) (Exchanges (Head claim.kind) (head_word claim.sweep.tops q i) (head_word claim.sweep.tops q next)) refl refl makes) names before
   by_claim claim (claims.StoreUsed q i) at makes moves names before = by_used claim i q makes moves names before
   by_claim claim (claims.Withdraw own) at makes moves names before = quietly (left (Some (Stores (Warning own) 0)) (Stores (Warning own) 0) refl refl makes) names before
-  by_claim claim claims.Sweeps at makes moves names before = by_sweep claim.sweep.scheme claim.sweep.stage claim.sweep.bound makes names before
+  by_claim claim claims.Sweeps at makes moves names before = by_sweep claim.sweep.tops claim.sweep.scheme claim.sweep.stage claim.sweep.bound makes names before
 
   -- a retirement: the slot is the caller's until its status is retired
   by_retirement : (slot : ℕ) (stage : RetireStage) (go : AfterRetire) → memory' ≡ after_access s.memory (retire_wants_at slot stage)
@@ -314,9 +314,9 @@ module _ (t : Plan) (c : ℕ) (s : Shared) (x : Caller) (memory' : Word → ℕ)
   by_routine Restarts a want makes moves names before = quietly (left (clear_wanted x.entry.number (restart_next t.target x.entry)) a want (clear_leaves s.memory j x.entry.number (restart_next t.target x.entry)) makes) names before
   by_routine (Clears next) a want makes moves names before = quietly (left (clear_wanted x.entry.number (clear_next t.target next x.entry)) a want (clear_leaves s.memory j x.entry.number (clear_next t.target next x.entry)) makes) names before
   by_routine (Claims claim) a want makes moves names before =
-      let same : claim_wants_at claim.kind claim.sweep claim.stage ≡ a = (let both : Some (claim_wants_at claim.kind claim.sweep claim.stage) ≡ Some a = want in cc) in
+      let same : claim_wants_at claim.sweep.tops claim.kind claim.sweep claim.stage ≡ a = (let both : Some (claim_wants_at claim.sweep.tops claim.kind claim.sweep claim.stage) ≡ Some a = want in cc) in
       by_claim claim claim.stage refl (makes ∙ ap (after_access s.memory) (sym same))
-      (moves ∙ ap (λ (a : WordAccess). claimed Optimistic t.target (claim_accepts_at t.setting.sizes t.setting.last claim (s.memory (word_of a)) claim.stage) (claim_counted (takes_at claim.stage (s.memory (word_of a))) (counted x.entry))) (sym same)) names before
+      (moves ∙ ap (λ (a : WordAccess). claimed Optimistic t.target (claim_accepts_at t.setting.sizes t.setting.last claim (s.memory (word_of a)) claim.stage) (claim_counted (takes_at t.setting.sizes.tops claim.stage (s.memory (word_of a))) (counted x.entry))) (sym same)) names before
   by_routine (Zeroes i field) a want makes moves names before =
       let same : Stores (FieldOf (cradle_of x.entry i) field) 0 ≡ a = (let both : Some (Stores (FieldOf (cradle_of x.entry i) field) 0) ≡ Some a = want in cc) in
       by_zero i field (makes ∙ ap (after_access s.memory) (sym same)) moves names before

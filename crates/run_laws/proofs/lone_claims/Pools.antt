@@ -115,7 +115,7 @@ used_warned n k Warned some = tt
 used_warned n k (Announced own) some = (some, omega arith)
 
 used_stage : (n : Sizes) (last k : ℕ) (m : Word → ℕ) (sweep : Sweep) (stage : SweepStage) → AreKinds n → 1 ≤ n.slots → AreUsed n k m → UsedSweep n k stage
-    → SweptOn n k (sweep_accepts_at n last sweep (m (word_of (sweep_wants_at sweep.scheme stage sweep.bound))) stage).sweep (sweep_accepts_at n last sweep (m (word_of (sweep_wants_at sweep.scheme stage sweep.bound))) stage).ended
+    → SweptOn n k (sweep_accepts_at n last sweep (m (word_of (sweep_wants_at sweep.tops sweep.scheme stage sweep.bound))) stage).sweep (sweep_accepts_at n last sweep (m (word_of (sweep_wants_at sweep.tops sweep.scheme stage sweep.bound))) stage).ended
 used_stage n last k m sweep sweeps.ReadPhase are some used at = of (m Phase == last) where
   of : (b : Bool) → SweptOn n k (if b then sweep_ends sweep (swept.PhasesOver (m Phase)) else sweep_goes sweep (sweeps.RaisePhase (m Phase))).sweep (if b then sweep_ends sweep (swept.PhasesOver (m Phase)) else sweep_goes sweep (sweeps.RaisePhase (m Phase))).ended
   of true = tt
@@ -136,17 +136,17 @@ used_stage n last k m sweep (sweeps.MakeReady j q) are some used at = of (m (Sta
   of false = used_sweep n k sweep j at.1
 used_stage n last k m sweep (sweeps.PushHead i j) are some used at = at.0
 used_stage n last k m sweep (sweeps.PushLink j q t) are some used at = (at, refl)
-used_stage n last k m sweep (sweeps.PushTop i j q t) are some used at = of (m (Head i) == head_word q t) where
+used_stage n last k m sweep (sweeps.PushTop i j q t) are some used at = of (m (Head i) == head_word n.tops q t) where
   of : (b : Bool) → SweptOn n k (if b then sweep_on n sweep j else sweep_goes sweep (sweeps.PushHead (kind_of n j) j)).sweep (if b then sweep_on n sweep j else sweep_goes sweep (sweeps.PushHead (kind_of n j) j)).ended
   of true = let other = at.0 in used_sweep n k sweep j other.1
   of false = (at.0, refl)
 
-used_turn : (n : Sizes) (last : ℕ) (m : Word → ℕ) (claim : Claim) (stage : ClaimStage) → claim.stage ≡ stage → AreKinds n → 1 ≤ n.slots → AreUsed n claim.kind m → top m claim.kind ≡ 0 → UsedStage n claim.kind claim.sweep stage
-    → UsedOn n (claim_accepts_at n last claim (m (word_of (claim_wants_at claim.kind claim.sweep stage))) stage).claim (claim_accepts_at n last claim (m (word_of (claim_wants_at claim.kind claim.sweep stage))) stage).ended
-used_turn n last m claim claims.ReadHead is are some used none at = used_look n claim (head_parts (m (Head claim.kind))) none
+used_turn : (n : Sizes) (last : ℕ) (m : Word → ℕ) (claim : Claim) (stage : ClaimStage) → claim.stage ≡ stage → AreKinds n → 1 ≤ n.slots → AreUsed n claim.kind m → top n.tops m claim.kind ≡ 0 → UsedStage n claim.kind claim.sweep stage
+    → UsedOn n (claim_accepts_at n last claim (m (word_of (claim_wants_at claim.sweep.tops claim.kind claim.sweep stage))) stage).claim (claim_accepts_at n last claim (m (word_of (claim_wants_at claim.sweep.tops claim.kind claim.sweep stage))) stage).ended
+used_turn n last m claim claims.ReadHead is are some used none at = used_look n claim (head_parts n.tops (m (Head claim.kind))) none
 used_turn n last m claim (claims.Withdraw own) is are some used none at = tt
 used_turn n last m claim claims.Sweeps is are some used none at =
-    let turn = sweep_accepts_at n last claim.sweep (m (word_of (sweep_wants_at claim.sweep.scheme claim.sweep.stage claim.sweep.bound))) claim.sweep.stage in
+    let turn = sweep_accepts_at n last claim.sweep (m (word_of (sweep_wants_at claim.sweep.tops claim.sweep.scheme claim.sweep.stage claim.sweep.bound))) claim.sweep.stage in
     used_ended n claim turn.sweep turn.ended is (used_stage n last claim.kind m claim.sweep claim.sweep.stage are some used at)
 used_turn n last m claim _ is are some used none at = absurd at
 
@@ -155,7 +155,7 @@ warn_words : (m : Word → ℕ) (scheme : Scheme) (c bound j : ℕ) → made m (
 warn_words m Warned c bound j = refl
 warn_words m (Announced own) c bound j = refl
 
-used_words : (n : Sizes) (k : ℕ) (m : Word → ℕ) (sweep : Sweep) (stage : SweepStage) → UsedSweep n k stage → (j : ℕ) → kind_of n j ≡ k → made m (sweep_wants_at sweep.scheme stage sweep.bound) (Status j) ≡ m (Status j)
+used_words : (n : Sizes) (k : ℕ) (m : Word → ℕ) (sweep : Sweep) (stage : SweepStage) → UsedSweep n k stage → (j : ℕ) → kind_of n j ≡ k → made m (sweep_wants_at sweep.tops sweep.scheme stage sweep.bound) (Status j) ≡ m (Status j)
 used_words n k m sweep (sweeps.Warn c) at j own = warn_words m sweep.scheme c sweep.bound j
 used_words n k m sweep (sweeps.ReadStatus i) at j own = sym (ap (λ (k : Word → ℕ). k (Status j)) (store_idle m (Status i)))
 used_words n k m sweep (sweeps.MakeReady i q) at j own =
@@ -163,7 +163,7 @@ used_words n k m sweep (sweeps.MakeReady i q) at j own =
     rw away refl
 used_words n k m sweep _ at j own = refl
 
-used_still : (n : Sizes) (k : ℕ) (m : Word → ℕ) (sweep : Sweep) (stage : ClaimStage) → UsedStage n k sweep stage → (j : ℕ) → kind_of n j ≡ k → made m (claim_wants_at k sweep stage) (Status j) ≡ m (Status j)
+used_still : (n : Sizes) (k : ℕ) (m : Word → ℕ) (sweep : Sweep) (stage : ClaimStage) → UsedStage n k sweep stage → (j : ℕ) → kind_of n j ≡ k → made m (claim_wants_at sweep.tops k sweep stage) (Status j) ≡ m (Status j)
 used_still n k m sweep claims.ReadHead at j own = refl
 used_still n k m sweep (claims.Withdraw caller) at j own = refl
 used_still n k m sweep claims.Sweeps at j own = used_words n k m sweep sweep.stage at j own
@@ -173,13 +173,13 @@ warn_leaves : (m : Word → ℕ) (scheme : Scheme) (c bound k : ℕ) → made m 
 warn_leaves m Warned c bound k = refl
 warn_leaves m (Announced own) c bound k = refl
 
-sweep_leaves : (n : Sizes) (k : ℕ) (m : Word → ℕ) (sweep : Sweep) (stage : SweepStage) → UsedSweep n k stage → made m (sweep_wants_at sweep.scheme stage sweep.bound) (Head k) ≡ m (Head k)
+sweep_leaves : (n : Sizes) (k : ℕ) (m : Word → ℕ) (sweep : Sweep) (stage : SweepStage) → UsedSweep n k stage → made m (sweep_wants_at sweep.tops sweep.scheme stage sweep.bound) (Head k) ≡ m (Head k)
 sweep_leaves n k m sweep (sweeps.Warn c) at = warn_leaves m sweep.scheme c sweep.bound k
 sweep_leaves n k m sweep (sweeps.PushHead h i) at = store_again m (Head h) (Head k)
 sweep_leaves n k m sweep (sweeps.PushTop h i q t) at = (let other = at.0 in head_other m h _ k (λ e. other.2 (sym at.1 ∙ sym e)))
 sweep_leaves n k m sweep _ at = refl
 
-head_still : (n : Sizes) (k : ℕ) (m : Word → ℕ) (sweep : Sweep) (stage : ClaimStage) → UsedStage n k sweep stage → made m (claim_wants_at k sweep stage) (Head k) ≡ m (Head k)
+head_still : (n : Sizes) (k : ℕ) (m : Word → ℕ) (sweep : Sweep) (stage : ClaimStage) → UsedStage n k sweep stage → made m (claim_wants_at sweep.tops k sweep stage) (Head k) ≡ m (Head k)
 head_still n k m sweep claims.ReadHead at = store_again m (Head k) (Head k)
 head_still n k m sweep (claims.Withdraw own) at = refl
 head_still n k m sweep claims.Sweeps at = sweep_leaves n k m sweep sweep.stage at
@@ -189,28 +189,28 @@ head_still n k m sweep _ at = absurd at
 pub record Used (n : Sizes) (m : Word → ℕ) (claim : Claim) : Type 0 where
   pub known : claim.kind < length n.kinds
   pub used : AreUsed n claim.kind m
-  pub none : top m claim.kind ≡ 0
+  pub none : top n.tops m claim.kind ≡ 0
   pub at : UsedStage n claim.kind claim.sweep claim.stage
 
 pub used_on : (n : Sizes) (last : ℕ) (m : Word → ℕ) (claim : Claim) → AreKinds n → 1 ≤ n.slots → Used n m claim
-    → (claim_accepts_at n last claim (m (word_of (claim_wants_at claim.kind claim.sweep claim.stage))) claim.stage).ended ≡ None
-    → Used n (made m (claim_wants_at claim.kind claim.sweep claim.stage)) (claim_accepts_at n last claim (m (word_of (claim_wants_at claim.kind claim.sweep claim.stage))) claim.stage).claim
+    → (claim_accepts_at n last claim (m (word_of (claim_wants_at claim.sweep.tops claim.kind claim.sweep claim.stage))) claim.stage).ended ≡ None
+    → Used n (made m (claim_wants_at claim.sweep.tops claim.kind claim.sweep claim.stage)) (claim_accepts_at n last claim (m (word_of (claim_wants_at claim.sweep.tops claim.kind claim.sweep claim.stage))) claim.stage).claim
 used_on n last m claim are some u is =
-    let m' : Word → ℕ = made m (claim_wants_at claim.kind claim.sweep claim.stage) in
-    let same = sym (claim_stays n last claim (m (word_of (claim_wants_at claim.kind claim.sweep claim.stage)))).kind in
+    let m' : Word → ℕ = made m (claim_wants_at claim.sweep.tops claim.kind claim.sweep claim.stage) in
+    let same = sym (claim_stays n last claim (m (word_of (claim_wants_at claim.sweep.tops claim.kind claim.sweep claim.stage)))).kind in
     let used : AreUsed n claim.kind m' = λ j low high. (let old = u.used j low high in (old.0, used_still n claim.kind m claim.sweep claim.stage u.at j (in_range_is_of_kind n claim.kind j u.known (low, high)) ∙ old.1)) in
-    let none : top m' claim.kind ≡ 0 = ap (λ (word : ℕ). (head_parts word).top) (head_still n claim.kind m claim.sweep claim.stage u.at) ∙ u.none in
+    let none : top n.tops m' claim.kind ≡ 0 = ap (λ (word : ℕ). (head_parts n.tops word).top) (head_still n claim.kind m claim.sweep claim.stage u.at) ∙ u.none in
     record {
       known = subst (λ (k : ℕ). k < length n.kinds) same u.known;
       used = subst (λ (k : ℕ). AreUsed n k m') same used;
-      none = subst (λ (k : ℕ). top m' k ≡ 0) same none;
-      at = subst (λ (o : Option ClaimEnd). UsedOn n (claim_accepts_at n last claim (m (word_of (claim_wants_at claim.kind claim.sweep claim.stage))) claim.stage).claim o) is (used_turn n last m claim claim.stage refl are some u.used u.none u.at);
+      none = subst (λ (k : ℕ). top n.tops m' k ≡ 0) same none;
+      at = subst (λ (o : Option ClaimEnd). UsedOn n (claim_accepts_at n last claim (m (word_of (claim_wants_at claim.sweep.tops claim.kind claim.sweep claim.stage))) claim.stage).claim o) is (used_turn n last m claim claim.stage refl are some u.used u.none u.at);
     }
 
 pub used_full : (n : Sizes) (last : ℕ) (m : Word → ℕ) (claim : Claim) (end : ClaimEnd) → AreKinds n → 1 ≤ n.slots → Used n m claim
-    → (claim_accepts_at n last claim (m (word_of (claim_wants_at claim.kind claim.sweep claim.stage))) claim.stage).ended ≡ Some end → ((p : ℕ) → end ≢ ends.PhasesOver p) → end ≡ ends.Full
-used_full n last m claim end are some u is never = of end (subst (λ (o : Option ClaimEnd). UsedOn n (claim_accepts_at n last claim (m (word_of (claim_wants_at claim.kind claim.sweep claim.stage))) claim.stage).claim o) is (used_turn n last m claim claim.stage refl are some u.used u.none u.at)) never where
-  of : (end : ClaimEnd) → UsedOn n (claim_accepts_at n last claim (m (word_of (claim_wants_at claim.kind claim.sweep claim.stage))) claim.stage).claim (Some end) → ((p : ℕ) → end ≢ ends.PhasesOver p) → end ≡ ends.Full
+    → (claim_accepts_at n last claim (m (word_of (claim_wants_at claim.sweep.tops claim.kind claim.sweep claim.stage))) claim.stage).ended ≡ Some end → ((p : ℕ) → end ≢ ends.PhasesOver p) → end ≡ ends.Full
+used_full n last m claim end are some u is never = of end (subst (λ (o : Option ClaimEnd). UsedOn n (claim_accepts_at n last claim (m (word_of (claim_wants_at claim.sweep.tops claim.kind claim.sweep claim.stage))) claim.stage).claim o) is (used_turn n last m claim claim.stage refl are some u.used u.none u.at)) never where
+  of : (end : ClaimEnd) → UsedOn n (claim_accepts_at n last claim (m (word_of (claim_wants_at claim.sweep.tops claim.kind claim.sweep claim.stage))) claim.stage).claim (Some end) → ((p : ℕ) → end ≢ ends.PhasesOver p) → end ≡ ends.Full
   of (ends.Claimed j) at never = absurd at
   of ends.Full at never = refl
   of (ends.PhasesOver p) at never = absurd (never p refl)

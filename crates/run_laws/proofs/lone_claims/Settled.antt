@@ -11,7 +11,7 @@ use Rattle.oa_words.specs.Starts.{Suits}
 use Rattle.source_machine.specs.declared.state.Memory.{Memory}
 use Rattle.source_machine.specs.declared.state.SourceMachine.{SourceMachine}
 use Rattle.source_machine.specs.MethodRuns.{put}
-use Rattle.source_machine.specs.Proper.{IsProper, has}
+use Rattle.source_machine.specs.Proper.{IsProperFor, has}
 use Rattle.source_machine.proofs.Places.{put_same, put_other}
 use Rattle.caller_parts.specs.declared.call.Call.{Call}
 use Rattle.caller_parts.specs.declared.routine.Routine.{Routine}
@@ -97,7 +97,7 @@ pub record SettledWithPool (t : Plan) (state : CoreState) (z : Shadow) (present 
   pub settled : SettledBeside t state z present
   pub pooled : Pooled t.target t.setting state
 
-module _ (t : Plan) (plan : IsPlan t) (proper : IsProper t.text) (events_seen : EventsAreSeen t.target t.setting) (are : AreKinds t.setting.sizes) (few : t.setting.sizes.slots ≤ 4096) (news : NewsFit t.target t.setting.sizes) (suits : Suits t.setting.sizes (beginning_of t.target t.setting)) where
+module _ (t : Plan) (plan : IsPlan t) (proper : IsProperFor t.setting.sizes.callers t.text) (events_seen : EventsAreSeen t.target t.setting) (are : AreKinds t.setting.sizes) (few : t.setting.sizes.slots < t.setting.sizes.tops) (news : NewsFit t.target t.setting.sizes) (suits : Suits t.setting.sizes (beginning_of t.target t.setting)) where
   abbrev n : ℕ
   n = t.setting.sizes.callers
 
@@ -178,7 +178,7 @@ start_settled t state callers b names first j le used = ⊎_elim not_first first
       absurd (let no : kinds.Used ≡ kinds.Ready = (status_tells used.0 other.0 kinds.Used kinds.Ready (sym used.1 ∙ (ap (λ (memory : Word → ℕ). memory (Status j)) b.memory ∙ other.1))).1 in cc)
 
 -- every state that a run comes to
-pub settles : (target : Target) (text : Text) (setting : Setting) → MayBeWalked target text → IsBarred target text → IsSetting setting → Fits target setting → setting.reclamation ≡ Optimistic → IsProper text → (events : List CoreEvent) (state : CoreState) → core_run target setting events (core_start target setting) ≡ Some state
+pub settles : (target : Target) (text : Text) (setting : Setting) → MayBeWalked target text → IsBarred target text → IsSetting setting → Fits target setting → setting.reclamation ≡ Optimistic → IsProperFor setting.sizes.callers text → (events : List CoreEvent) (state : CoreState) → core_run target setting events (core_start target setting) ≡ Some state
     → SettledBeside (plan_of target text setting events) state (shadow target text setting events) (present_in target text setting events)
 settles target text setting runs barred own fits optimistic proper events state is =
     let t : Plan = plan_of target text setting events in
@@ -190,16 +190,16 @@ settles target text setting runs barred own fits optimistic proper events state 
       some = own;
       fits = fits;
       optimistic = optimistic;
-      callers = own.sizes.0;
+      callers = own.sizes.callers;
       null = homes 0 (omega arith) ∙ first_null setting;
     } in
     let words : IsFirst t (view setting (core_start target setting)).memory = first_words t runs own fits homes in
     let first = start_beside t own (start_is_seen target setting) (start_suits target text setting runs own fits).suits words in
-    (run_settled t plan proper (events_are_seen target setting) (setting_sane setting own).kinds (setting_sane setting own).few (news_fit target setting (methods target text runs) (setting_sane setting own) fits) (start_suits target text setting runs own fits).suits
+    (run_settled t plan proper (events_are_seen target setting) (setting_sane setting own).kinds own.sizes.tops (news_fit target setting (methods target text runs) (setting_sane setting own) fits) (start_suits target text setting runs own fits).suits
     (λ s sound. sound_is_shaped target setting s (methods target text runs) (setting_sane setting own) fits sound)
     (λ s next event sound at. event_sound target setting s next event (methods target text runs) (setting_sane setting own) fits sound at)
     events (core_start target setting) state z0 (first_present setting) (start_sound target setting (methods target text runs) runs.within own fits)
     (record {
       settled = record { beside = first.0; names = first.1; settled = start_settled t (core_start target setting) setting.sizes.callers first.0 first.1 words };
-      pooled = start_pooled target setting (setting_sane setting own).kinds (setting_sane setting own).few (start_suits target text setting runs own fits).suits;
+      pooled = start_pooled target setting (setting_sane setting own).kinds own.sizes.tops (start_suits target text setting runs own fits).suits;
     }) is (λ n lt. refl)).settled

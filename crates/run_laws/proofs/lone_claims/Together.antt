@@ -90,10 +90,10 @@ module _ (target : Target) (text : Text) (setting : Setting) (runs : MayBeWalked
   one = omega (arith, lone)
 
   some_slots : 1 ≤ setting.sizes.slots
-  some_slots = own.sizes.2
+  some_slots = own.sizes.slots
 
-  few : setting.sizes.slots ≤ 4096
-  few = (setting_sane setting own).few
+  few : setting.sizes.slots < setting.sizes.tops
+  few = own.sizes.tops
 
   are : AreKinds setting.sizes
   are = (setting_sane setting own).kinds
@@ -162,7 +162,7 @@ module _ (target : Target) (text : Text) (setting : Setting) (runs : MayBeWalked
       let none : 0 ≡ j = sym (ap slot_of (past_callers target setting state c (shaped state k.sound) above)) ∙ has in omega (arith, none, least))
       (cases_lt c setting.sizes.callers)
 
-  free_on_top : (kind : ℕ) → BeginsAt setting state kind → (j : ℕ) → 1 ≤ j → j ≤ setting.sizes.slots → slots.kind_of setting.sizes j ≡ kind → IsFree m j → HasTop m kind
+  free_on_top : (kind : ℕ) → BeginsAt setting state kind → (j : ℕ) → 1 ≤ j → j ≤ setting.sizes.slots → slots.kind_of setting.sizes j ≡ kind → IsFree m j → HasTop setting.sizes.tops m kind
   free_on_top kind begun j least most own free none = ⊎_elim
       (λ (stands : times j (k.pooled.0.chain (slots.kind_of setting.sizes j)) ≡ 1).
       let no : 0 ≡ 1 = sym (ap (times j) (told.empty kind (known kind begun) none)) ∙ (ap (λ (i : ℕ). times j (k.pooled.0.chain i)) (sym own) ∙ stands) in let bad : ⊥ = omega (arith, no) in bad)
@@ -170,9 +170,9 @@ module _ (target : Target) (text : Text) (setting : Setting) (runs : MayBeWalked
       (told.ready j (least, most) free)
 
   -- if each is used, none is on top
-  used_none : (kind : ℕ) → kind < length setting.sizes.kinds → AreUsed setting.sizes kind m → top m kind ≡ 0
+  used_none : (kind : ℕ) → kind < length setting.sizes.kinds → AreUsed setting.sizes kind m → top setting.sizes.tops m kind ≡ 0
   used_none kind lt used = of (k.pooled.0.chain kind) refl (pool_holds.fine.linked kind lt) where
-    of : (chain : List ℕ) → k.pooled.0.chain kind ≡ chain → IsChain (links m) (top m kind) chain → top m kind ≡ 0
+    of : (chain : List ℕ) → k.pooled.0.chain kind ≡ chain → IsChain (links m) (top setting.sizes.tops m kind) chain → top setting.sizes.tops m kind ≡ 0
     of [] is linked = linked
     of (j ∷ below) is linked =
         let at_least : times j (j ∷ below) ≡ suc (times j below) = times_here j below in
@@ -194,6 +194,7 @@ module _ (target : Target) (text : Text) (setting : Setting) (runs : MayBeWalked
       let start : Frees setting.sizes u.0 u.1 u.2 few lone m (claim_begun setting.sizes kind Warned) = record {
         own = u.3;
         warns = refl;
+        tops = refl;
         zeros = zeros kind end.begun;
         at = ⊎_elim (λ (free : IsFree m u.0). inr (free_on_top kind end.begun u.0 u.1 u.2 u.3 free)) (λ (old : IsOld m u.0 (m Phase + 1)). inl (refl, old)) u.4;
       } in

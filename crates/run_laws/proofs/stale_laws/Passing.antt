@@ -8,7 +8,7 @@ use Rattle.oa_words.specs.Words.{Word, Warning}
 use Rattle.barrier_check.specs.Paired.{Paired, IsSound as IsPairSound}
 use Rattle.source_machine.specs.declared.state.SourceCaller.{SourceCaller}
 use Rattle.source_machine.specs.declared.state.SourceMachine.{SourceMachine}
-use Rattle.source_machine.specs.Proper.{IsProper}
+use Rattle.source_machine.specs.Proper.{IsProperFor}
 use Rattle.caller_parts.specs.Settings.{Setting, Fits, IsSetting}
 use Rattle.caller_steps.specs.Entries.{Entry}
 use Rattle.caller_parts.specs.Operands.{slot_in}
@@ -30,7 +30,7 @@ use Rattle.run_laws.proofs.stale_laws.Loading.{Based, based}
 use Rattle.run_laws.proofs.stale_laws.Warnings.{Stays, stays_on, warned_fails}
 use Rattle.caller_parts.specs.declared.setting.Reclamation.TheVariants.{Optimistic}
 
-module _ (target : Target) (text : Text) (setting : Setting) (runs : MayBeWalked target text) (own : IsSetting setting) (fits : Fits target setting) (proper : IsProper text) (events : List CoreEvent) (state : CoreState) (k : Stood target text setting events state) where
+module _ (target : Target) (text : Text) (setting : Setting) (runs : MayBeWalked target text) (own : IsSetting setting) (fits : Fits target setting) (proper : IsProperFor setting.sizes.callers text) (events : List CoreEvent) (state : CoreState) (k : Stood target text setting events state) where
   abbrev t : Plan
   t = plan_of target text setting events
 

@@ -85,21 +85,21 @@ by_warning : (scheme : Scheme) (c bound : ℕ) → Rises (warn_wanted scheme c b
 by_warning Warned c bound = λ m d. each_warning (λ i n. m (Warning i) ≤ n) m c (max (m (Warning c)) bound) (omega arith) (λ i ne. omega arith) d
 by_warning (Announced own) c bound = loads (Warning c)
 
-by_sweep : (scheme : Scheme) (stage : SweepStage) (bound : ℕ) → Rises (sweep_wants_at scheme stage bound)
-by_sweep scheme sweeps.ReadPhase bound = loads Phase
-by_sweep scheme (sweeps.Warn c) bound = by_warning scheme c bound
-by_sweep scheme (sweeps.ReadHazard c r) bound = loads (Hazard c r)
-by_sweep scheme (sweeps.ReadStatus j) bound = loads (Status j)
-by_sweep scheme (sweeps.PushHead k j) bound = loads (Head k)
-by_sweep scheme _ bound = λ m d. omega arith
+by_sweep : (tops : ℕ) (scheme : Scheme) (stage : SweepStage) (bound : ℕ) → Rises (sweep_wants_at tops scheme stage bound)
+by_sweep tops scheme sweeps.ReadPhase bound = loads Phase
+by_sweep tops scheme (sweeps.Warn c) bound = by_warning scheme c bound
+by_sweep tops scheme (sweeps.ReadHazard c r) bound = loads (Hazard c r)
+by_sweep tops scheme (sweeps.ReadStatus j) bound = loads (Status j)
+by_sweep tops scheme (sweeps.PushHead k j) bound = loads (Head k)
+by_sweep tops scheme _ bound = λ m d. omega arith
 
-by_claim : (setting : Setting) (k : ℕ) (sweep : Sweep) (stage : ClaimStage) → sweep.scheme ≡ Warned → ClaimStands setting sweep.scheme k stage → Rises (claim_wants_at k sweep stage)
+by_claim : (setting : Setting) (k : ℕ) (sweep : Sweep) (stage : ClaimStage) → sweep.scheme ≡ Warned → ClaimStands setting sweep.scheme k stage → Rises (claim_wants_at sweep.tops k sweep stage)
 by_claim setting k sweep claims.ReadHead warns stands = loads (Head k)
 by_claim setting k sweep (claims.ReadLink q t) warns stands = loads (Link t)
 by_claim setting k sweep (claims.Take q t next) warns stands = λ m d. omega arith
 by_claim setting k sweep (claims.StoreUsed q t) warns stands = λ m d. omega arith
 by_claim setting k sweep (claims.Withdraw own) warns stands = absurd (let no : Warned ≡ Announced own = sym warns ∙ stands in cc)
-by_claim setting k sweep claims.Sweeps warns stands = by_sweep sweep.scheme sweep.stage sweep.bound
+by_claim setting k sweep claims.Sweeps warns stands = by_sweep sweep.tops sweep.scheme sweep.stage sweep.bound
 
 by_retirement : (slot : ℕ) (stage : RetireStage) → Rises (retire_wants_at slot stage)
 by_retirement slot retires.ReadPhase = loads Phase

@@ -9,7 +9,7 @@ use Rattle.oa_words.specs.Packed.{status_word, head_word}
 use Rattle.phase_pools.specs.declared.stages.ClaimStage.TheVariants as claims
 use Rattle.phase_pools.specs.Pools.{Claim}
 use Rattle.chain_laws.specs.Chains.{IsChain, IsOf, links, times, top}
-use Rattle.source_machine.specs.Proper.{IsProper}
+use Rattle.source_machine.specs.Proper.{IsProperFor}
 use Rattle.caller_parts.specs.declared.routine.Routine.TheVariants.{Claims}
 use Rattle.caller_parts.specs.Settings.{Setting}
 use Rattle.core_runs.specs.Machine.{CoreState, CoreEvent, core_start, core_run}
@@ -23,12 +23,12 @@ pub record TakesSlot (setting : Setting) (state : CoreState) (d j : ℕ) : Type 
   pub next : ℕ
   pub at : ((view setting state).who d).routine ≡ Claims claim
   pub stage : claim.stage ≡ claims.Take phase j next
-  pub found : (view setting state).memory (Head claim.kind) ≡ head_word phase j
+  pub found : (view setting state).memory (Head claim.kind) ≡ head_word setting.sizes.tops phase j
 
 -- the chain of a kind: from its head's top on each slot's link names the one below it
 pub record ReadyChain (n : Sizes) (memory : Word → ℕ) (k : ℕ) : Type 0 where
   pub chain : List ℕ
-  pub linked : IsChain (links memory) (top memory k) chain
+  pub linked : IsChain (links memory) (top n.tops memory k) chain
   pub once : (j : ℕ) → times j chain ≤ 1
   pub ready : (j : ℕ) → times j chain ≡ 1 → IsSlot (slot_range n) j × (kind_of n j ≡ k) × IsOf kinds.Ready (memory (Status j))
 
@@ -43,6 +43,6 @@ pub record Spared (target : Target) (setting : Setting) (events : List CoreEvent
       → (known : takes.claim.kind < length setting.sizes.kinds) × ((times j (chain takes.claim.kind known).chain ≡ 1) × ((view setting state).memory (Link j) ≡ takes.next))
   pub not_taken : (c r d j : ℕ) → c < setting.sizes.callers → IsValidated target setting events c r → TakesSlot setting state d j → (view setting state).memory (Hazard c r) ≢ j
 
--- of a proper text
+-- of a text that is proper for the setting's callers
 abbrev pub GuardsAreSpared : Target → Text → Setting → Type 0
-GuardsAreSpared target text setting = IsProper text → (events : List CoreEvent) (state : CoreState) → core_run target setting events (core_start target setting) ≡ Some state → Spared target setting events state
+GuardsAreSpared target text setting = IsProperFor setting.sizes.callers text → (events : List CoreEvent) (state : CoreState) → core_run target setting events (core_start target setting) ≡ Some state → Spared target setting events state

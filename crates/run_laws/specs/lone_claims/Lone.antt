@@ -14,7 +14,7 @@ use Rattle.phase_pools.specs.declared.access.ClaimEnd.TheVariants as ends
 use Rattle.phase_pools.specs.declared.stages.Scheme.TheVariants.{Warned}
 use Rattle.phase_pools.specs.Accesses.{word_of}
 use Rattle.phase_pools.specs.Pools.{Claim, claim_begun, claim_wants, claim_accepts}
-use Rattle.source_machine.specs.Proper.{IsProper, has}
+use Rattle.source_machine.specs.Proper.{IsProperFor, has}
 use Rattle.caller_parts.specs.declared.routine.Routine.{Routine}
 use Rattle.caller_parts.specs.declared.routine.Routine.TheVariants.{Idle, LoadSeen, At, InList, Retires, Restarts, Clears, Claims, Zeroes, Announces}
 use Rattle.caller_parts.specs.Settings.{Setting}
@@ -85,7 +85,7 @@ pub record LoneClaim (target : Target) (text : Text) (setting : Setting) (events
   -- a claim that begins is of the kind of the `new` at which its caller stands
   pub of_new : (k : ℕ) → BeginsAt setting state k → (d : Reg) × (instr_in target ((view setting state).who 0) ≡ Some (Plain (instr.New d k)))
 
--- of a proper text, with one caller
+-- of a text that is proper for it, with one caller
 abbrev pub LoneClaimsAreFull : Target → Text → Setting → Type 0
-LoneClaimsAreFull target text setting = IsProper text → setting.sizes.callers ≡ 1 → (events : List CoreEvent) (state : CoreState) → core_run target setting events (core_start target setting) ≡ Some state
+LoneClaimsAreFull target text setting = IsProperFor setting.sizes.callers text → setting.sizes.callers ≡ 1 → (events : List CoreEvent) (state : CoreState) → core_run target setting events (core_start target setting) ≡ Some state
     → LoneClaim target text setting events state

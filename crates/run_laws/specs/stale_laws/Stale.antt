@@ -10,7 +10,7 @@ use Rattle.oa_words.specs.Words.{Warning}
 use Rattle.phase_pools.specs.Accesses.{WordAccess, word_of}
 use Rattle.source_machine.specs.declared.state.Running.{Running}
 use Rattle.source_machine.specs.declared.state.SourceCaller.{SourceCaller}
-use Rattle.source_machine.specs.Proper.{IsProper}
+use Rattle.source_machine.specs.Proper.{IsProperFor}
 use Rattle.caller_parts.specs.declared.routine.Routine.TheVariants.{At}
 use Rattle.caller_parts.specs.Settings.{Setting}
 use Rattle.caller_steps.specs.Entries.{Entry, instr_in}
@@ -78,6 +78,6 @@ pub record StaleLoadsAreWarned (target : Target) (text : Text) (setting : Settin
   pub warned : (c : ℕ) (base : Reg) (more : List CoreEvent) (later : CoreState) → c < setting.sizes.callers → IsStaleLoad target text setting events c ((view setting state).who c) base
       → core_run target setting more state ≡ Some later → begins_none target setting c more state ≡ true → IsWarned target setting (view setting later) c
 
--- of a proper text
+-- of a text that is proper for the setting's callers
 abbrev pub NoStalePass : Target → Text → Setting → Type 0
-NoStalePass target text setting = IsProper text → (events : List CoreEvent) (state : CoreState) → core_run target setting events (core_start target setting) ≡ Some state → StaleLoadsAreWarned target text setting events state
+NoStalePass target text setting = IsProperFor setting.sizes.callers text → (events : List CoreEvent) (state : CoreState) → core_run target setting events (core_start target setting) ≡ Some state → StaleLoadsAreWarned target text setting events state

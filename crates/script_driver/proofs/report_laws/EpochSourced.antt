@@ -2,7 +2,7 @@
 use Rattle.std.proofs.Common.{◌≡◌, ◌+◌, List, length, refl}
 use Rattle.target_laws.specs.target_runs.Runnable.{MayBeWalked as MayRun}
 use Rattle.target_code.specs.Bare.{bare}
-use Rattle.source_machine.specs.Proper.{IsProper}
+use Rattle.source_machine.specs.Proper.{IsProperFor}
 use Rattle.caller_parts.specs.Settings.{Fits, IsSetting}
 use Rattle.core_runs.specs.Machine.{CoreState, CoreEvent}
 use Rattle.epoch_runs.specs.Source.{EpochRunsFollowSource}
@@ -17,7 +17,7 @@ use Rattle.script_driver.proofs.report_laws.EachLine.{every_line}
 use Rattle.script_driver.proofs.report_laws.Sourced.{source_answer}
 
 pub has_epoch_source_run : EpochRunsFollowSource → (document : Document) (events : List CoreEvent) (state : CoreState) → MayRun (bare document.text) document.text → IsSetting (epoch_setting_of document) → Fits (bare document.text) (epoch_setting_of document)
-    → 0 + length document.scripts ≡ length state.entries → IsCompleteEpochRunOf document events state → IsProper document.text → HasEpochSourceRun document events state (report_of document state)
+    → 0 + length document.scripts ≡ length state.entries → IsCompleteEpochRunOf document events state → IsProperFor (length document.scripts) document.text → HasEpochSourceRun document events state (report_of document state)
 has_epoch_source_run follow document events state may own fits count complete proper =
     let run = follow document.text (epoch_setting_of document) (calls_of document) document.fuel events state may.small may.normal own fits refl proper complete in
     record {

@@ -3,7 +3,8 @@ use Rattle.std.proofs.Common.{◌≡◌, ◌≤◌, ℕ, ◌+◌, length, Some, 
 use Rattle.std.specs.Prelude.{slice_get}
 use Rattle.std.specs.List.{sum_by}
 use Rattle.norm_lang.specs.Shipped.{queue_text}
-use Rattle.source_machine.specs.Proper.{IsProper}
+use Rattle.source_machine.specs.Proper.{IsProper, IsProperForAny}
+use Rattle.source_machine.proofs.Reached.{fewer_are_proper}
 use Rattle.norm_lang.specs.declared.reply.SourceReply.TheVariants as replies
 use Rattle.target_laws.specs.target_runs.Runnable.{MayBeWalked as MayRun}
 use Rattle.target_code.specs.Bare.{bare}
@@ -15,12 +16,13 @@ use Rattle.core_runs.specs.Machine.{OfAll, Reachable}
 use Rattle.core_runs.specs.Swept.{RestartsAreCounted}
 use Rattle.core_runs.proofs.core_sound.Reached.{states_are_sound}
 use Rattle.claim_laws.specs.Causes.{RepliesAreCaused}
-use Rattle.claim_laws.specs.Full.{claims_in, FillAKind}
+use Rattle.claim_laws.specs.CallSteps.{steps_of_call}
+use Rattle.claim_laws.specs.Full.{claims_in, FillItsKind}
 use Rattle.oa_words.proofs.KindRanges.{part_within}
 use Rattle.claim_laws.proofs.Following.{replies_caused}
-use Rattle.claim_laws.proofs.Filling.{full_takes}
+use Rattle.claim_laws.proofs.Sought.{full_takes}
 use Rattle.epoch_runs.specs.Source.{EpochRunsFollowSource}
-use Rattle.script_plans.specs.Shapes.{sizes_of, setting_of, epoch_setting_of}
+use Rattle.script_plans.specs.Shapes.{sizes_of, epoch_setting_of}
 use Rattle.script_plans.specs.Plans.{calls_of as scripts_of}
 use Rattle.document_runs.specs.Reports.{claims_of, capped, report_of}
 use Rattle.script_driver.specs.report_laws.Lines.{TakesClaims}
@@ -28,19 +30,20 @@ use Rattle.legal_histories.specs.Told.{SetRunsAreLegal, QueueRunsAreLegal}
 use Rattle.script_driver.specs.report_laws.EpochSources.{epoch_source_of, HasEpochSourceRun}
 use Rattle.script_driver.specs.report_laws.EpochLines.{IsTrueEpochLine, EpochReportsAreTrue}
 use Rattle.script_driver.proofs.report_laws.EachLine.{told_reply, every_line}
-use Rattle.script_driver.proofs.report_laws.Runnable.{kinds_are_all, setting_is}
+use Rattle.script_driver.proofs.report_laws.Runnable.{few_callers, kinds_are_all, setting_is}
 use Rattle.script_driver.proofs.report_laws.Answering.{true_answer}
 use Rattle.script_driver.proofs.report_laws.Sourced.{SetsAreProper, named_is_proper, source_answer}
 use Rattle.script_driver.proofs.report_laws.EpochOrdering.{epochs_have_legal_history}
 use Rattle.script_driver.proofs.report_laws.EpochSourced.{has_epoch_source_run}
+use Rattle.script_driver.proofs.report_laws.NeverFull.{bare_never_full}
 use Rattle.script_driver.proofs.report_laws.Truth.{summed}
 
-pub reports_true : BareTextsAreRunnable → OfAll RestartsAreCounted → EpochRunsFollowSource → SetsAreProper → IsProper queue_text → SetRunsAreLegal → QueueRunsAreLegal → EpochReportsAreTrue
+pub reports_true : BareTextsAreRunnable → OfAll RestartsAreCounted → EpochRunsFollowSource → SetsAreProper → IsProperForAny queue_text → SetRunsAreLegal → QueueRunsAreLegal → EpochReportsAreTrue
 reports_true runnable counted follow sets queue set_runs queue_runs document events state within can complete = record {
   complete = complete;
   of = refl;
   lines = every_line state (IsTrueEpochLine document events state) (λ c i call e there. true_answer (bare document.text) (epoch_setting_of document) (scripts_of document) document.fuel events state complete caused c e there i) 0 document.scripts count;
-  full = every_line state (TakesClaims document (capped (sum_by claims_of state.entries))) (λ c i call e there full. enough c i e there (told_reply state c e there i replies.Full full)) 0 document.scripts count;
+  full = every_line state (TakesClaims (bare document.text) (epoch_setting_of document) events (capped (sum_by claims_of state.entries))) (λ c i call e there full. enough c i e there (told_reply state c e there i replies.Full full)) 0 document.scripts count;
   restarts = λ c e there. (counted (bare document.text) (epoch_setting_of document)).run refl events state c e complete.run.runs there;
   proper = sourced;
   named = λ words named. sourced (named_is_proper sets queue words document.text named);
@@ -50,6 +53,7 @@ reports_true runnable counted follow sets queue set_runs queue_runs document eve
       (λ c e there i. true_answer (bare document.text) (epoch_setting_of document) (scripts_of document) document.fuel events state complete caused c e there i)
       (λ c e there i. source_answer (epoch_source_of document events) state c e there (from_source.run.simulated.refined.agrees c e there) i)
       set_runs queue_runs can words named;
+  shipped = bare_never_full document events state count complete own may fits;
 } where
   own : IsSetting (epoch_setting_of document)
   own = let same = setting_is document can in record { sizes = same.sizes; first = same.first; phases = same.phases; last = same.last; nodes = same.nodes }
@@ -70,14 +74,16 @@ reports_true runnable counted follow sets queue set_runs queue_runs document eve
   count = let same : length document.scripts ≡ length state.entries = sym (states_are_sound (bare document.text) document.text (epoch_setting_of document) state may own fits reached).callers in omega (arith, same)
 
   sourced : IsProper document.text → HasEpochSourceRun document events state (report_of document state)
-  sourced proper = has_epoch_source_run follow document events state may own fits count complete proper
+  sourced proper = has_epoch_source_run follow document events state may own fits count complete (fewer_are_proper document.text (length document.scripts) 8 (few_callers document can) proper)
 
   enough : (c i : ℕ) (e : Entry) → slice_get state.entries c ≡ Some e → (replied : Replied) × (slice_get e.replies i ≡ Some replied) × (replied.reply ≡ replies.Full)
-      → FillAKind (setting_of document) (capped (sum_by claims_of state.entries))
+      → FillItsKind (epoch_setting_of document) (capped (sum_by claims_of state.entries)) (steps_of_call (bare document.text) (epoch_setting_of document) events c i)
   enough c i e there found =
-      let all : FillAKind (epoch_setting_of document) (claims_in state.entries) = (full_takes (bare document.text) document.text (epoch_setting_of document) may own fits).each state c i e found.0 reached there found.1 found.2 in
-      let enough = all.2 in
+      let all : FillItsKind (epoch_setting_of document) (claims_in state.entries) (steps_of_call (bare document.text) (epoch_setting_of document) events c i)
+      = (full_takes (bare document.text) document.text (epoch_setting_of document) may own fits).each events state c i e found.0 complete.run.runs there found.1 found.2 in
+      let enough = all.3 in
       let sum = summed state.entries in
       let part = part_within (sizes_of document).kinds all.0 in
-      let few : (sizes_of document).slots ≤ 4096 = own.sizes.3 in
-      (all.0, all.1, omega (arith, enough, sum, part, few))
+      let few = own.sizes.tops in
+      let room = own.last in
+      (all.0, all.1, all.2, omega (arith, enough, sum, part, few, room))

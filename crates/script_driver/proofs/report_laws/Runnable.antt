@@ -70,6 +70,9 @@ module _ (document : Document) (runs : IsRunnable document) where
   callers : (is_count MOST_CALLERS (sizes_of document).callers ≡ true) × (first_of after_callers ≡ None)
   callers = passed 1 (is_count MOST_CALLERS (sizes_of document).callers) after_callers setting.0
 
+  pub few_callers : (sizes_of document).callers ≤ MOST_CALLERS
+  few_callers = (counted MOST_CALLERS (sizes_of document).callers callers.0).1
+
   slots : ((is_count MOST_KINDS kinds && are_slots (sizes_of document)) ≡ true) × (first_of after_slots ≡ None)
   slots = passed 2 (is_count MOST_KINDS kinds && are_slots (sizes_of document)) after_slots callers.1
 
@@ -107,7 +110,8 @@ module _ (document : Document) (runs : IsRunnable document) where
       let a = counted MOST_CALLERS (sizes_of document).callers callers.0 in
       let c = counted MOST_FIELDS (sizes_of document).fields fields.0 in
       let d = counted MOST_CELLS (sizes_of document).cells (passed 4 (is_count MOST_CELLS (sizes_of document).cells) [] fields.1).0 in
-      (a.0, a.1, some_slot, at_most (together (kind_slots document)) 4096 of_kinds.1, c.0, c.1, d.0, d.1, kinds_are)
+      let most = at_most (together (kind_slots document)) 4096 of_kinds.1 in
+      record { callers = a.0; slots = some_slot; fields = c.0; cells = d.0; kinds = kinds_are; tops = omega (arith, most); room = omega arith }
 
   nodes : HaveSlots (sizes_of document) (kind_nodes document.text.nodes)
   nodes = kinds_have_slots (sizes_of document) (kind_nodes document.text.nodes) (are_roomy (sizes_of document) (kind_nodes document.text.nodes) after_sizes.0)
@@ -122,7 +126,7 @@ module _ (document : Document) (runs : IsRunnable document) where
   later = let parts = both_true (nat_le document.first document.last) (nat_le document.last (2 ^ 50)) first.1 in (at_most document.first document.last parts.0, at_most document.last (2 ^ 50) parts.1)
 
   pub setting_is : IsSetting (setting_of document)
-  setting_is = record { sizes = sizes; first = first.0; phases = later.0; last = later.1; nodes = nodes }
+  setting_is = record { sizes = sizes; first = first.0; phases = later.0; last = (let most = later.1 in omega (arith, most)); nodes = nodes }
 
   -- each call may make a step
   pub fuel_is : 1 ≤ document.fuel

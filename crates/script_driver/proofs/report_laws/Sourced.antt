@@ -11,7 +11,7 @@ use Rattle.target_laws.specs.target_runs.Runnable.{MayBeWalked as MayRun}
 use Rattle.norm_lang.specs.declared.reply.SourceReply.{SourceReply}
 use Rattle.source_machine.specs.declared.state.SourceMachine.{SourceMachine}
 use Rattle.source_machine.specs.Run.{source_replies}
-use Rattle.source_machine.specs.Proper.{IsProper}
+use Rattle.source_machine.specs.Proper.{IsProper, IsProperFor, IsProperForAny}
 use Rattle.caller_parts.specs.declared.call.Replied.{Replied}
 use Rattle.caller_parts.specs.Pairing.{reply_of}
 use Rattle.caller_parts.specs.Settings.{Fits, IsSetting}
@@ -105,7 +105,7 @@ module _ (machine : SourceMachine) (state : CoreState) (c : ℕ) (e : Entry) (th
 -- ---- the whole
 
 pub has_source_run : (document : Document) (events : List CoreEvent) (state : CoreState) → MayRun (target_of document) document.text → IsBarred (target_of document) document.text → IsSetting (setting_of document) → Fits (target_of document) (setting_of document)
-    → 1 ≤ document.fuel → 0 + length document.scripts ≡ length state.entries → IsCompleteRunOf document events state → IsProper document.text → HasSourceRun document events state (report_of document state)
+    → 1 ≤ document.fuel → 0 + length document.scripts ≡ length state.entries → IsCompleteRunOf document events state → IsProperFor (length document.scripts) document.text → HasSourceRun document events state (report_of document state)
 has_source_run document events state may barred own fits some count complete proper =
     let pair : Paired = record { target = target_of document; source = document.text } in
     let sound : IsSound pair = record { small = may.small; normal = may.normal; within = may.within; barred = barred } in
@@ -118,12 +118,12 @@ has_source_run document events state may barred own fits some count complete pro
 -- ---- shipped texts
 
 abbrev pub SetsAreProper : Type 0
-SetsAreProper = (buckets : ℕ) → 0 < buckets → IsProper (set_text buckets)
+SetsAreProper = (buckets : ℕ) → 0 < buckets → IsProperForAny (set_text buckets)
 
-proper_by : SetsAreProper → IsProper queue_text → (shipped : ShippedText) → IsShipped shipped → IsProper (shipped_text shipped)
-proper_by sets queue TheList may = sets 1 (omega arith)
-proper_by sets queue (TheSet buckets) may = let some = may.0 in sets buckets (omega (arith, some))
-proper_by sets queue TheQueue may = queue
+proper_by : SetsAreProper → IsProperForAny queue_text → (shipped : ShippedText) → IsShipped shipped → IsProper (shipped_text shipped)
+proper_by sets queue TheList may = sets 1 (omega arith) 8
+proper_by sets queue (TheSet buckets) may = let some = may.0 in sets buckets (omega (arith, some)) 8
+proper_by sets queue TheQueue may = queue 8
 
-pub named_is_proper : SetsAreProper → IsProper queue_text → (words : List (List ℕ)) (text : Text) → IsNamed words text → IsProper text
+pub named_is_proper : SetsAreProper → IsProperForAny queue_text → (words : List (List ℕ)) (text : Text) → IsNamed words text → IsProper text
 named_is_proper sets queue words text named = subst IsProper (sym named.same) (proper_by sets queue named.shipped named.may_be)

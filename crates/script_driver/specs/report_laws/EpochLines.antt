@@ -18,6 +18,7 @@ use Rattle.document_runs.specs.Epochs.{IsCompleteEpochRunOf}
 use Rattle.script_driver.specs.report_laws.EpochSources.{HasEpochSourceRun}
 use Rattle.script_driver.specs.report_laws.Legal.{HasLegalHistory}
 use Rattle.script_driver.specs.report_laws.Lines.{IsCausedAnswer, TakesClaims}
+use Rattle.script_driver.specs.report_laws.Shipped.{ShippedIsNeverFull}
 use Rattle.script_driver.specs.report_laws.Sources.{IsNamed}
 
 -- why the call of a line has no result, each exactly if this is so
@@ -32,16 +33,18 @@ CountsRestarts document events c e =
 
 -- a report tells of a complete run of its document under epochs: it is that of the state in which the run ends, and its lines are true.
 -- If the text is proper, the run is one of the text on memory that is never recycled, each load's base is null or resident, and the lines
--- are what that run answers; of a text that a `use` line names nothing is assumed, and what its lines show has a legal history
+-- are what that run answers; of a text that a `use` line names nothing is assumed, and what its lines show has a legal history. Of a shipped
+-- text no line is full if the slots are enough
 pub record EpochsTellOf (document : Document) (events : List CoreEvent) (state : CoreState) (report : Report) : Type 0 where
   pub complete : IsCompleteEpochRunOf document events state
   pub of : report ≡ report_of document state
   pub lines : All (IsTrueEpochLine document events state) report.lines
-  pub full : All (TakesClaims document report.claims) report.lines
+  pub full : All (TakesClaims (bare document.text) (epoch_setting_of document) events report.claims) report.lines
   pub restarts : (c : ℕ) (e : Entry) → slice_get state.entries c ≡ Some e → CountsRestarts document events c e
   pub proper : IsProper document.text → HasEpochSourceRun document events state report
   pub named : (words : List (List ℕ)) → IsNamed words document.text → HasEpochSourceRun document events state report
   pub legal : (words : List (List ℕ)) → IsNamed words document.text → HasLegalHistory report
+  pub shipped : ShippedIsNeverFull document report
 
 -- of each complete run of each document that can be run
 abbrev pub EpochReportsAreTrue : Type 0

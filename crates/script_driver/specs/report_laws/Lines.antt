@@ -9,7 +9,7 @@ use Rattle.core_runs.specs.Machine.{CoreState, CoreEvent}
 use Rattle.core_runs.specs.Histories.{calls_in}
 use Rattle.claim_laws.specs.CallSteps.{steps_of_call}
 use Rattle.claim_laws.specs.Causes.{FoundLastPhase, EndsInFailedLook}
-use Rattle.claim_laws.specs.Full.{FillAKind}
+use Rattle.claim_laws.specs.Full.{FillItsKind}
 use Rattle.documents.specs.declared.document.Document.{Document}
 use Rattle.documents.specs.DocumentLimits.{IsWithinDocumentLimits}
 use Rattle.script_plans.specs.Shapes.{setting_of}
@@ -33,7 +33,7 @@ WasNeverTaken events caller index = slice_get (calls_in caller events) index ≡
 -- found no slot of its kind on top; all the steps that it may make were made, and it hasn't ended; or its caller never took it
 pub record IsCausedAnswer (target : Target) (setting : Setting) (fuel : ℕ) (events : List CoreEvent) (state : CoreState) (caller index : ℕ) (answer : Answer) : Type 0 where
   pub phases : (p : ℕ) → (answer ≡ answers.Replied (replies.Phases p)) ↔ FoundLastPhase setting p (steps_of_call target setting events caller index)
-  pub full : (answer ≡ answers.Replied replies.Full) ↔ EndsInFailedLook (steps_of_call target setting events caller index)
+  pub full : (answer ≡ answers.Replied replies.Full) ↔ EndsInFailedLook setting (steps_of_call target setting events caller index)
   pub spent : (answer ≡ answers.Spent) ↔ IsOutOfFuel fuel events state caller index
   pub unreached : (answer ≡ answers.Unreached) ↔ WasNeverTaken events caller index
 
@@ -43,10 +43,10 @@ IsTrueAnswer document events state caller index answer = IsCausedAnswer (target_
 abbrev pub IsTrueLine : Document → List CoreEvent → CoreState → ReportLine → Type 0
 IsTrueLine document events state line = IsTrueAnswer document events state line.caller line.index line.answer
 
--- if a line says that the pool is full, the initial nodes of one kind and the claims of the report together are at least the slots
--- of this kind
-abbrev pub TakesClaims : Document → ℕ → ReportLine → Type 0
-TakesClaims document claims line = line.answer ≡ answers.Replied replies.Full → FillAKind (setting_of document) claims
+-- if a line says that the pool is full, the initial nodes of the kind of the `new` at which its call gave up and the claims of the report
+-- together are at least the slots of this kind
+abbrev pub TakesClaims : Target → Setting → List CoreEvent → ℕ → ReportLine → Type 0
+TakesClaims target setting events claims line = line.answer ≡ answers.Replied replies.Full → FillItsKind setting claims (steps_of_call target setting events line.caller line.index)
 
 -- a report tells of a complete run of its document: it is that of the state in which the run ends, and its lines are true. If the
 -- text is proper, the run is one of the text on memory that is never recycled, and the lines are what that one answers; of a text that
@@ -55,7 +55,7 @@ pub record TellsOf (document : Document) (events : List CoreEvent) (state : Core
   pub complete : IsCompleteRunOf document events state
   pub of : report ≡ report_of document state
   pub lines : All (IsTrueLine document events state) report.lines
-  pub full : All (TakesClaims document report.claims) report.lines
+  pub full : All (TakesClaims (target_of document) (setting_of document) events report.claims) report.lines
   pub proper : IsProper document.text → HasSourceRun document events state report
   pub named : (words : List (List ℕ)) → IsNamed words document.text → HasSourceRun document events state report
   pub legal : (words : List (List ℕ)) → IsNamed words document.text → HasLegalHistory report

@@ -39,7 +39,7 @@ newcomer key = record { live = true; fixed = key; entries = []; found = 0; acces
 abbrev pub no_fixed : Fixed
 no_fixed = record {
   target = record { target = record { kinds = item_kind ∷ []; fields = []; roots = []; nodes = []; ops = [] }; source = record { kinds = item_kind ∷ []; fields = []; roots = []; nodes = []; ops = [] } };
-  setting = record { reclamation = Optimistic; sizes = record { callers = 0; slots = 0; fields = 0; cells = 0; kinds = [] }; first = 0; last = 0; nodes = [] };
+  setting = record { reclamation = Optimistic; sizes = record { callers = 0; slots = 0; fields = 0; cells = 0; kinds = []; tops = 8192 }; first = 0; last = 0; nodes = [] };
 }
 
 -- what is left of a seat that was joined away

@@ -9,9 +9,9 @@ loop-before-init c = first_none c.args.setting.now.sizes
 
 pub overflow_add-first : goal.overflow_add-first
 overflow_add-first c =
-    let few = first_few c.args.setting.now.sizes c.loop-before.before c.kept.ensures.sizes in
+    let few = first_few c.args.setting.now.sizes c.loop-before.before c.kept.ensures.sizes c.limits.ensures.sizes in
     let same : c.shape-shape.result.now.slots ≡ c.args.setting.now.sizes.slots = ap (λ (n : Sizes). n.slots) c.shape-shape.ensures in
-    omega (arith, few, c.loop-before.invariant, c.slots_of-first.ensures.few, same, c.kept.ensures.sizes.3)
+    omega (arith, few, c.loop-before.invariant, c.slots_of-first.ensures.few, same, c.limits.ensures.sizes.slots)
 
 pub loop-before-preserved : goal.loop-before-preserved
 loop-before-preserved c =
@@ -27,4 +27,4 @@ returns-clause-same c =
 
 pub returns-clause-few : goal.returns-clause-few
 returns-clause-few c =
-    let few = first_few c.args.setting.now.sizes c.loop-before.before c.kept.ensures.sizes in omega (arith, few, c.loop-before.invariant)
+    let few = first_few c.args.setting.now.sizes c.loop-before.before c.kept.ensures.sizes c.limits.ensures.sizes in omega (arith, few, c.loop-before.invariant)

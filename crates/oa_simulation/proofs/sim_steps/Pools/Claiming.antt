@@ -210,36 +210,40 @@ took t c s x claim j p q null_home f w some lt is =
 
 -- ---- a slot is taken from the chain
 
-takes : (t : Plan) (c : ℕ) (s : Shared) (x : Caller) (claim : Claim) (j q next : ℕ) → IsErased t.target t.text → t.home 0 ≡ 0 → SharedHolds t s → Claiming t s c x → 1 ≤ j
-    → Kept t c s x (after_access s.memory (claim_wants_at claim.kind claim.sweep (claims.Take q j next))) (claimed Optimistic t.target (look_took claim q j (s.memory (Head claim.kind))) (claim_counted (takes_at (claims.Take q j next) (s.memory (Head claim.kind))) (counted x.entry)))
-takes t c s x claim j q next erased null_home f w some = of (s.memory (Head claim.kind) == head_word q j) where
-  of : (b : Bool) → Kept t c s x (store s.memory (Head claim.kind) (if b then head_word q next else s.memory (Head claim.kind)))
-      (claimed Optimistic t.target (if b then claim_goes claim (claims.StoreUsed q j) else claim_goes claim claims.ReadHead) (claim_counted b (counted x.entry)))
-  of true =
-      let memory' : Word → ℕ = store s.memory (Head claim.kind) (head_word q next) in
-      let r = head_risen s.memory claim.kind (head_word q next) f.warning in
-      claim_kept t c s (with_words s memory') x (record claim { stage = claims.StoreUsed q j }) None true memory' s.present erased null_home f (fine_risen t s memory' r f) (goes_risen t s memory' r) refl refl refl refl w some
-  of false = claim_kept t c s s x (record claim { stage = claims.ReadHead }) None false _ s.present erased null_home f f (goes_same t s) refl refl (store_idle s.memory (Head claim.kind)) refl w tt
+takes : (t : Plan) (c : ℕ) (s : Shared) (x : Caller) (claim : Claim) (tops j q next : ℕ) → tops ≡ t.setting.sizes.tops → IsErased t.target t.text → t.home 0 ≡ 0 → SharedHolds t s → Claiming t s c x → 1 ≤ j
+    → Kept t c s x (store s.memory (Head claim.kind) (if s.memory (Head claim.kind) == head_word tops q j then head_word tops q next else s.memory (Head claim.kind)))
+    (claimed Optimistic t.target (look_took t.setting.sizes claim q j (s.memory (Head claim.kind))) (claim_counted (takes_at t.setting.sizes.tops (claims.Take q j next) (s.memory (Head claim.kind))) (counted x.entry)))
+takes t c s x claim tops j q next own erased null_home f w some =
+    subst (λ (n : ℕ). Kept t c s x (store s.memory (Head claim.kind) (if s.memory (Head claim.kind) == head_word n q j then head_word n q next else s.memory (Head claim.kind)))
+    (claimed Optimistic t.target (look_took t.setting.sizes claim q j (s.memory (Head claim.kind))) (claim_counted (takes_at t.setting.sizes.tops (claims.Take q j next) (s.memory (Head claim.kind))) (counted x.entry)))) (sym own)
+    (of (s.memory (Head claim.kind) == head_word t.setting.sizes.tops q j)) where
+      of : (b : Bool) → Kept t c s x (store s.memory (Head claim.kind) (if b then head_word t.setting.sizes.tops q next else s.memory (Head claim.kind)))
+          (claimed Optimistic t.target (if b then claim_goes claim (claims.StoreUsed q j) else claim_goes claim claims.ReadHead) (claim_counted b (counted x.entry)))
+      of true =
+          let memory' : Word → ℕ = store s.memory (Head claim.kind) (head_word t.setting.sizes.tops q next) in
+          let r = head_risen s.memory claim.kind (head_word t.setting.sizes.tops q next) f.warning in
+          claim_kept t c s (with_words s memory') x (record claim { stage = claims.StoreUsed q j }) None true memory' s.present erased null_home f (fine_risen t s memory' r f) (goes_risen t s memory' r) refl refl refl refl w some
+      of false = claim_kept t c s s x (record claim { stage = claims.ReadHead }) None false _ s.present erased null_home f f (goes_same t s) refl refl (store_idle s.memory (Head claim.kind)) refl w tt
 
 -- its sweeps warn the callers
-claim_warns : (setting : Setting) (c : ℕ) (claim : Claim) → setting.reclamation ≡ Optimistic → ClaimBelongs setting c claim → Warns claim.sweep
+claim_warns : (setting : Setting) (c : ℕ) (claim : Claim) → setting.reclamation ≡ Optimistic → ClaimBelongs setting c claim → Warns setting.sizes.tops claim.sweep
 claim_warns setting c claim optimistic own =
     let warned = claim_warned setting c claim optimistic own in
-    record { scheme = warned; low = subst (λ (scheme : Scheme). HasLow scheme claim.sweep.bound claim.sweep.low) warned own.sweep.low }
+    record { scheme = warned; tops = own.tops; low = subst (λ (scheme : Scheme). HasLow scheme claim.sweep.bound claim.sweep.low) warned own.sweep.low }
 
 -- each step of a claim
 pub claims_keep : (t : Plan) (c : ℕ) (s : Shared) (x : Caller) (claim : Claim) (stage : ClaimStage) → claim.stage ≡ stage → IsErased t.target t.text → t.home 0 ≡ 0 → 1 ≤ t.setting.sizes.callers → SharedHolds t s → Claiming t s c x → new_number t.target x.entry < length x.entry.cradles → TakenIsReady s.memory stage → t.setting.reclamation ≡ Optimistic → ClaimBelongs t.setting x.entry.number claim → ClaimAt t s claim.sweep stage
-    → KeptNaming t c s x (after_access s.memory (claim_wants_at claim.kind claim.sweep stage)) (claimed Optimistic t.target (claim_accepts_at t.setting.sizes t.setting.last claim (s.memory (word_of (claim_wants_at claim.kind claim.sweep stage))) stage) (claim_counted (takes_at stage (s.memory (word_of (claim_wants_at claim.kind claim.sweep stage)))) (counted x.entry))) (freed_in stage claim.sweep.stage s.memory s.present)
+    → KeptNaming t c s x (after_access s.memory (claim_wants_at claim.sweep.tops claim.kind claim.sweep stage)) (claimed Optimistic t.target (claim_accepts_at t.setting.sizes t.setting.last claim (s.memory (word_of (claim_wants_at claim.sweep.tops claim.kind claim.sweep stage))) stage) (claim_counted (takes_at t.setting.sizes.tops stage (s.memory (word_of (claim_wants_at claim.sweep.tops claim.kind claim.sweep stage)))) (counted x.entry))) (freed_in stage claim.sweep.stage s.memory s.present)
 claims_keep t c s x claim claims.ReadHead is erased null_home some f w lt ready optimistic own at =
-    let turn = look_begun claim (head_parts (s.memory (Head claim.kind))) in
-    claim_kept t c s s x turn.claim turn.ended false _ s.present erased null_home f f (goes_same t s) refl refl (store_idle s.memory (Head claim.kind)) refl w (head_next t s claim (head_parts (s.memory (Head claim.kind))))
+    let turn = look_begun claim (head_parts t.setting.sizes.tops (s.memory (Head claim.kind))) in
+    claim_kept t c s s x turn.claim turn.ended false _ s.present erased null_home f f (goes_same t s) refl refl (store_idle s.memory (Head claim.kind)) refl w (head_next t s claim (head_parts t.setting.sizes.tops (s.memory (Head claim.kind))))
 claims_keep t c s x claim (claims.ReadLink q j) is erased null_home some f w lt ready optimistic own at =
     claim_kept t c s s x (record claim { stage = claims.Take q j (s.memory (Link j)) }) None false _ s.present erased null_home f f (goes_same t s) refl refl (store_idle s.memory (Link j)) refl w at
-claims_keep t c s x claim (claims.Take q j next) is erased null_home some f w lt ready optimistic own at = takes t c s x claim j q next erased null_home f w at
+claims_keep t c s x claim (claims.Take q j next) is erased null_home some f w lt ready optimistic own at = takes t c s x claim claim.sweep.tops j q next own.tops erased null_home f w at
 claims_keep t c s x claim (claims.StoreUsed q j) is erased null_home some f w lt ready optimistic own at = took t c s x claim j ready.0 q null_home f w at lt ready.1
 claims_keep t c s x claim (claims.Withdraw number) is erased null_home some f w lt ready optimistic own at = absurd (never_withdraws t.setting x.entry.number number claim optimistic own is)
 claims_keep t c s x claim claims.Sweeps is erased null_home some f w lt ready optimistic own at =
-    let turn = sweep_accepts_at t.setting.sizes t.setting.last claim.sweep (s.memory (word_of (sweep_wants_at claim.sweep.scheme claim.sweep.stage claim.sweep.bound))) claim.sweep.stage in
+    let turn = sweep_accepts_at t.setting.sizes t.setting.last claim.sweep (s.memory (word_of (sweep_wants_at claim.sweep.tops claim.sweep.scheme claim.sweep.stage claim.sweep.bound))) claim.sweep.stage in
     let swept = sweep_step t s claim.sweep claim.sweep.stage some f (claim_warns t.setting x.entry.number claim optimistic own) at in
     claim_kept t c s swept.s' x (sweep_ended claim turn.sweep turn.ended).claim (sweep_ended claim turn.sweep turn.ended).ended false _ _ erased null_home f swept.shared_holds swept.goes swept.source swept.unused swept.memory swept.present w
     (sweep_goes_on t swept.s' claim turn.sweep turn.ended is swept.next)

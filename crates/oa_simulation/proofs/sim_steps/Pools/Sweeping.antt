@@ -31,9 +31,11 @@ use Rattle.oa_simulation.proofs.sim_relation.Moving.{goes_same}
 use Rattle.oa_simulation.proofs.sim_steps.Pools.Phases.{Risen, with_words, fine_risen, goes_risen, phase_risen, warning_risen, head_risen, link_risen}
 use Rattle.oa_simulation.proofs.sim_steps.Pools.Slots.{Freed, freed, dead_slot, fine_freed, goes_freed}
 
--- a sweep that raises the callers' warnings to its phase, and recycles what was retired before it
-pub record Warns (sweep : Sweep) : Type 0 where
+-- a sweep that raises the callers' warnings to its phase, and recycles what was retired before it; its heads are those of a row of so
+-- many tops
+pub record Warns (most : ℕ) (sweep : Sweep) : Type 0 where
   pub scheme : sweep.scheme ≡ Warned
+  pub tops : sweep.tops ≡ most
   pub low : sweep.low ≡ sweep.bound
 
 -- what a sweep that goes on knows
@@ -62,7 +64,7 @@ on_next : (t : Plan) (s : Shared) (sweep : Sweep) (j : ℕ) → Sweeps t s sweep
     → SweepNext t s (sweep_on t.setting.sizes sweep j).sweep (sweep_on t.setting.sizes sweep j).ended
 on_next t s sweep j w = from_slot (λ turn. SweepNext t s turn.sweep turn.ended) t.setting.sizes sweep j (λ more. w) tt
 
-status_next : (t : Plan) (s : Shared) (sweep : Sweep) (j : ℕ) (parts : Option StatusParts) → Warns sweep → Sweeps t s sweep.bound t.setting.sizes.callers (8 * t.setting.sizes.callers) sweep.gathered
+status_next : (t : Plan) (s : Shared) (sweep : Sweep) (j : ℕ) (parts : Option StatusParts) → Warns t.setting.sizes.tops sweep → Sweeps t s sweep.bound t.setting.sizes.callers (8 * t.setting.sizes.callers) sweep.gathered
     → SweepNext t s (status_read t.setting.sizes sweep j parts).sweep (status_read t.setting.sizes sweep j parts).ended
 status_next t s sweep j parts own w = from_status (λ turn. SweepNext t s turn.sweep turn.ended) t.setting.sizes sweep j parts (on_next t s sweep j w)
     (λ p is below away. let low = own.low in (w, omega (arith, below, low), away))
@@ -141,7 +143,7 @@ may_free t s low j q g f w word = record { word = word; below = w.1; warned = w.
       cc
 
 frees : (t : Plan) (s : Shared) (sweep : Sweep) (j q : ℕ) → SharedHolds t s → SweepAt t s sweep.bound sweep.gathered (sweeps.MakeReady j q)
-    → Swept t s (after_access s.memory (sweep_wants_at sweep.scheme (sweeps.MakeReady j q) sweep.bound)) (made_ready t.setting.sizes sweep j q (s.memory (Status j))) (freed_at (sweeps.MakeReady j q) s.memory s.present)
+    → Swept t s (after_access s.memory (sweep_wants_at sweep.tops sweep.scheme (sweeps.MakeReady j q) sweep.bound)) (made_ready t.setting.sizes sweep j q (s.memory (Status j))) (freed_at (sweeps.MakeReady j q) s.memory s.present)
 frees t s sweep j q f w = of (s.memory (Status j) == status_word q kinds.Retired) refl where
   of : (b : Bool) → (s.memory (Status j) == status_word q kinds.Retired) ≡ b
       → Swept t s (store s.memory (Status j) (if b then status_word sweep.bound kinds.Ready else s.memory (Status j))) (if b then sweep_goes sweep (sweeps.PushHead (kind_of t.setting.sizes j) j) else sweep_on t.setting.sizes sweep j) (if b then put s.present j 0 else s.present)
@@ -160,16 +162,18 @@ frees t s sweep j q f w = of (s.memory (Status j) == status_word q kinds.Retired
         next = w.0;
       }
 
-pushes : (t : Plan) (s : Shared) (sweep : Sweep) (kind j q top : ℕ) → SharedHolds t s → Sweeps t s sweep.bound t.setting.sizes.callers (8 * t.setting.sizes.callers) sweep.gathered
-    → Swept t s (after_access s.memory (sweep_wants_at sweep.scheme (sweeps.PushTop kind j q top) sweep.bound)) (pushed t.setting.sizes sweep j q top (s.memory (Head kind))) s.present
-pushes t s sweep kind j q top f w = of (s.memory (Head kind) == head_word q top) where
-  of : (b : Bool) → Swept t s (store s.memory (Head kind) (if b then head_word (max q sweep.bound) j else s.memory (Head kind))) (if b then sweep_on t.setting.sizes sweep j else sweep_goes sweep (sweeps.PushHead (kind_of t.setting.sizes j) j)) s.present
-  of true = risen t s (store s.memory (Head kind) (head_word (max q sweep.bound) j)) (sweep_on t.setting.sizes sweep j) (head_risen s.memory kind (head_word (max q sweep.bound) j) f.warning) f
-      (on_next t (with_words s (store s.memory (Head kind) (head_word (max q sweep.bound) j))) sweep j w)
-  of false = unchanged t s (Head kind) (sweep_goes sweep (sweeps.PushHead (kind_of t.setting.sizes j) j)) f w
+pushes : (t : Plan) (s : Shared) (sweep : Sweep) (tops kind j q top : ℕ) → tops ≡ t.setting.sizes.tops → SharedHolds t s → Sweeps t s sweep.bound t.setting.sizes.callers (8 * t.setting.sizes.callers) sweep.gathered
+    → Swept t s (after_access s.memory (sweep_wants_at tops sweep.scheme (sweeps.PushTop kind j q top) sweep.bound)) (pushed t.setting.sizes sweep j q top (s.memory (Head kind))) s.present
+pushes t s sweep tops kind j q top own f w =
+    subst (λ (n : ℕ). Swept t s (after_access s.memory (sweep_wants_at n sweep.scheme (sweeps.PushTop kind j q top) sweep.bound)) (pushed t.setting.sizes sweep j q top (s.memory (Head kind))) s.present) (sym own)
+    (of (s.memory (Head kind) == head_word t.setting.sizes.tops q top)) where
+      of : (b : Bool) → Swept t s (store s.memory (Head kind) (if b then head_word t.setting.sizes.tops (max q sweep.bound) j else s.memory (Head kind))) (if b then sweep_on t.setting.sizes sweep j else sweep_goes sweep (sweeps.PushHead (kind_of t.setting.sizes j) j)) s.present
+      of true = risen t s (store s.memory (Head kind) (head_word t.setting.sizes.tops (max q sweep.bound) j)) (sweep_on t.setting.sizes sweep j) (head_risen s.memory kind (head_word t.setting.sizes.tops (max q sweep.bound) j) f.warning) f
+          (on_next t (with_words s (store s.memory (Head kind) (head_word t.setting.sizes.tops (max q sweep.bound) j))) sweep j w)
+      of false = unchanged t s (Head kind) (sweep_goes sweep (sweeps.PushHead (kind_of t.setting.sizes j) j)) f w
 
-pub sweep_step : (t : Plan) (s : Shared) (sweep : Sweep) (stage : SweepStage) → 1 ≤ t.setting.sizes.callers → SharedHolds t s → Warns sweep → SweepAt t s sweep.bound sweep.gathered stage
-    → Swept t s (after_access s.memory (sweep_wants_at sweep.scheme stage sweep.bound)) (sweep_accepts_at t.setting.sizes t.setting.last sweep (s.memory (word_of (sweep_wants_at sweep.scheme stage sweep.bound))) stage) (freed_at stage s.memory s.present)
+pub sweep_step : (t : Plan) (s : Shared) (sweep : Sweep) (stage : SweepStage) → 1 ≤ t.setting.sizes.callers → SharedHolds t s → Warns t.setting.sizes.tops sweep → SweepAt t s sweep.bound sweep.gathered stage
+    → Swept t s (after_access s.memory (sweep_wants_at sweep.tops sweep.scheme stage sweep.bound)) (sweep_accepts_at t.setting.sizes t.setting.last sweep (s.memory (word_of (sweep_wants_at sweep.tops sweep.scheme stage sweep.bound))) stage) (freed_at stage s.memory s.present)
 sweep_step t s sweep sweeps.ReadPhase some f own w = unchanged t s Phase (phase_read t.setting.last sweep (s.memory Phase)) f (of (s.memory Phase == t.setting.last)) where
   of : (b : Bool) → SweepNext t s (if b then sweep_ends sweep (swept.PhasesOver (s.memory Phase)) else sweep_goes sweep (sweeps.RaisePhase (s.memory Phase))).sweep
       (if b then sweep_ends sweep (swept.PhasesOver (s.memory Phase)) else sweep_goes sweep (sweeps.RaisePhase (s.memory Phase))).ended
@@ -188,6 +192,6 @@ sweep_step t s sweep (sweeps.ReadHazard c r) some f own w = unchanged t s (Hazar
     (hazard_on t s sweep.bound c r (with_slot sweep.gathered (s.memory (Hazard c r))) w.1 w.2 (gathers t s sweep.bound t.setting.sizes.callers c r sweep.gathered f w.2 w.0))
 sweep_step t s sweep (sweeps.ReadStatus j) some f own w = unchanged t s (Status j) (status_read t.setting.sizes sweep j (status_parts (s.memory (Status j)))) f (status_next t s sweep j (status_parts (s.memory (Status j))) own w)
 sweep_step t s sweep (sweeps.MakeReady j q) some f own w = frees t s sweep j q f w
-sweep_step t s sweep (sweeps.PushHead kind j) some f own w = unchanged t s (Head kind) (push_read sweep j (head_parts (s.memory (Head kind)))) f w
+sweep_step t s sweep (sweeps.PushHead kind j) some f own w = unchanged t s (Head kind) (push_read sweep j (head_parts t.setting.sizes.tops (s.memory (Head kind)))) f w
 sweep_step t s sweep (sweeps.PushLink j q top) some f own w = risen t s (store s.memory (Link j) top) (sweep_goes sweep (sweeps.PushTop (kind_of t.setting.sizes j) j q top)) (link_risen s.memory j top f.warning) f w
-sweep_step t s sweep (sweeps.PushTop kind j q top) some f own w = pushes t s sweep kind j q top f w
+sweep_step t s sweep (sweeps.PushTop kind j q top) some f own w = pushes t s sweep sweep.tops kind j q top own.tops f w

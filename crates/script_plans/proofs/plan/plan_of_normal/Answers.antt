@@ -9,4 +9,4 @@ returns-in_err-setting-clause-exact c =
 
 pub returns-clause-exact : goal.returns-clause-exact
 returns-clause-exact c =
-    is_planned c.args.document.now c.args.normal.now c.in_ok-barred.barred c.in_ok-setting.setting c.in_ok-scripts.scripts c.requires.text c.requires.normal c.in_ok-setting.ensures c.in_ok-barred.ensures.code c.in_ok-scripts.ensures.same
+    is_planned c.args.document.now c.args.normal c.in_ok-barred.barred c.in_ok-setting.setting c.in_ok-scripts.scripts c.requires.text c.requires.normal c.in_ok-setting.ensures c.in_ok-barred.ensures.code c.in_ok-scripts.ensures.same

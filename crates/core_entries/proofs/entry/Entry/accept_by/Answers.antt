@@ -1,4 +1,4 @@
-use Rattle.std.proofs.Common.{◌≡◌, ◌≢◌, false, None, sym, ap, subst, ◌∙◌}
+use Rattle.std.proofs.Common.{◌≡◌, ◌≢◌, false, None, sym, ap, subst, ◌∙◌, arith}
 use Rattle.target_code.specs.declared.target.Target.{Target}
 use Rattle.barrier_check.specs.Paired.{Paired}
 use Rattle.caller_steps.specs.Entries.{Entry, RoomyEntry, is_idle}
@@ -7,8 +7,14 @@ use Rattle.caller_steps.specs.After.{after}
 use Rattle.caller_steps.specs.Lawful.{MayBeTold}
 use Rattle.core_entries.specs.Callers.{BelongsTo, HasRoom}
 use Rattle.core_ground.specs.Running.{pair_of}
-use Rattle.core_entries.proofs.Calling.{told, near, news, keeps, runs, room_kept}
+use Rattle.core_entries.proofs.Calling.{told, near, news, keeps, runs, room_kept, slots}
 use Rattle.core_entries.proofs.entry.Entry.accept_by.Goals as goal
+
+pub accept-requires-clause-slots : goal.accept-requires-clause-slots
+accept-requires-clause-slots c =
+    slots (pair_of c.args.runs) c.args.setting.now c.self.inside.state.core c.kept-2.ensures c.kept.ensures
+    (let few = c.limits.ensures.sizes.slots in omega (arith, few))
+    (subst (λ (e : RoomyEntry). BelongsTo (pair_of c.args.runs) c.args.setting.now e.core) (sym c.self.view_is) c.requires.belongs)
 
 pub accept-requires-clause-spare : goal.accept-requires-clause-spare
 accept-requires-clause-spare c =

@@ -1,4 +1,4 @@
-use Rattle.std.proofs.Common.{Option, sym, ap, subst, ◌∙◌}
+use Rattle.std.proofs.Common.{Option, sym, ap, subst, ◌∙◌, arith}
 use Rattle.std.specs.Prelude.{is_some}
 use Rattle.target_code.specs.declared.target.Target.{Target}
 use Rattle.phase_pools.specs.declared.access.Access.{Access}
@@ -6,8 +6,14 @@ use Rattle.caller_steps.specs.Entries.{RoomyEntry}
 use Rattle.caller_steps.specs.Wants.{wants}
 use Rattle.caller_steps.specs.Asking.{located_option}
 use Rattle.core_entries.specs.Callers.{BelongsTo, IsInRow}
-use Rattle.core_entries.proofs.Calling.{asks, wanted, row}
+use Rattle.core_entries.proofs.Calling.{asks, wanted, row, slots}
 use Rattle.core_entries.proofs.entry.Entry.pending_on.Goals as goal
+
+pub pending-requires-clause-slots : goal.pending-requires-clause-slots
+pending-requires-clause-slots c =
+    slots c.args.loaded.now c.args.setting.now c.self.inside.state.core c.kept-2.ensures c.kept.ensures
+    (let few = c.limits.ensures.sizes.slots in omega (arith, few))
+    (subst (λ (e : RoomyEntry). BelongsTo c.args.loaded.now c.args.setting.now e.core) (sym c.self.view_is) c.requires.belongs)
 
 pub pending-requires-clause-can : goal.pending-requires-clause-can
 pending-requires-clause-can c =

@@ -1,4 +1,4 @@
-use Rattle.std.proofs.Common.{sym, ap, subst, ◌∙◌}
+use Rattle.std.proofs.Common.{sym, ap, subst, ◌∙◌, arith}
 use Rattle.target_code.specs.declared.target.Target.{Target}
 use Rattle.caller_steps.specs.Entries.{RoomyEntry}
 use Rattle.caller_steps.specs.Wants.{wants}
@@ -17,6 +17,7 @@ signs_after-requires-clause-near c =
 pub signs_after-requires-clause-slots : goal.signs_after-requires-clause-slots
 signs_after-requires-clause-slots c =
     slots c.args.barred.now c.args.setting.now c.self.inside.state.core (runnable c.args.barred.now c.kept-2.ensures) c.kept.ensures
+    (let few = c.limits.ensures.sizes.slots in omega (arith, few))
     (subst (λ (e : RoomyEntry). BelongsTo c.args.barred.now c.args.setting.now e.core) (sym c.self.view_is) c.requires.belongs)
 
 pub signs_after-requires-clause-can : goal.signs_after-requires-clause-can

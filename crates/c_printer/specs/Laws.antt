@@ -1,0 +1,34 @@
+-- What is printed is read back.
+use Rattle.std.specs.Prelude.{◌≡◌, ℕ, List, length, Some, true}
+use Rattle.std.specs.List.{list_all}
+use Rattle.norm_lang.specs.LineWords.{is_name}
+use Rattle.oa_text.specs.Tokens.{words_of}
+use Rattle.c_language.specs.declared.lines.Line.{Line}
+use Rattle.c_printer.specs.Names.{claim_names, are_names}
+use Rattle.c_printer.specs.Words.{token_bytes}
+use Rattle.c_printer.specs.Tokens.{line_tokens}
+use Rattle.c_printer.specs.Lexing.{after_said, tokens_said}
+use Rattle.c_printer.specs.Reading.{line_said}
+use Rattle.c_printer.specs.Fitting.{is_fitting_line, is_fitting_code}
+use Rattle.c_printer.specs.Header.{header_text}
+use Rattle.c_printer.specs.FileRead.{header_said}
+
+-- the names of the locals of claims differ from each other, from what stands in a function's head, and from the keywords of C
+abbrev pub NamesDiffer : Type 0
+NamesDiffer = are_names claim_names ≡ true
+
+-- the tokens of a line say that line and no other
+abbrev pub TokensReadBack : Type 0
+TokensReadBack = (line : Line) → line_said (line_tokens line) ≡ Some line
+
+-- a printed line says the line that it was printed from: in any header, with any table of names that differ
+abbrev pub LinesReadBack : Type 0
+LinesReadBack =
+    (name : List ℕ) (names : List (List ℕ)) (line : Line) → is_name name ≡ true → are_names names ≡ true → is_fitting_line names line ≡ true
+    → after_said (tokens_said name names (words_of (token_bytes name names (line_tokens line)))) line_said ≡ Some line
+
+-- the bytes of a header say the claims that it was printed from
+abbrev pub HeadersReadBack : Type 0
+HeadersReadBack =
+    (name strides : List ℕ) (roots : ℕ) (claims : List (List Line)) → is_name name ≡ true → list_all (is_fitting_code claim_names) claims ≡ true
+    → header_said name strides roots (length claims) (header_text name strides roots claims) ≡ Some claims

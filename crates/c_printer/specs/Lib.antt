@@ -1,0 +1,12 @@
+pub mod Names
+pub mod Words
+pub mod Tokens
+pub mod Lexing
+pub mod Reading
+pub mod Filling
+pub mod Functions
+pub mod Header
+pub mod Fitting
+pub mod FileRead
+pub mod Laws
+pub mod Lvalues

@@ -1,0 +1,12 @@
+pub mod Numbers
+pub mod KindChain
+pub mod Shapes
+pub mod Looks
+pub mod Raising
+pub mod Noting
+pub mod Recycling
+pub mod Pushing
+pub mod KindSteps
+pub mod Claims
+pub mod Fitting
+pub mod Cradles

@@ -1,0 +1,4 @@
+pub mod ClaimLines
+pub mod KindLines
+pub mod ClaimFrames
+pub mod Laws

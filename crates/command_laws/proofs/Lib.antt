@@ -1,0 +1,3 @@
+mod Blind
+mod Workloads
+mod RoundTrips

@@ -1,0 +1,5 @@
+pub mod Counting
+pub mod FewKinds
+pub mod ClaimsFit
+pub mod Telling
+pub mod Completing

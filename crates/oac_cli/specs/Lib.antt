@@ -1,0 +1,4 @@
+pub mod Commands
+pub mod Emitted
+pub mod Judged
+pub mod Endings

@@ -1,0 +1,3 @@
+mod Sources
+mod Told
+mod Improper

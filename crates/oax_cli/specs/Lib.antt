@@ -1,0 +1,5 @@
+pub mod Requests
+pub mod Endings
+pub mod Telling
+pub mod Readings
+pub mod Judgements
