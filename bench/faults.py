@@ -1,6 +1,6 @@
 #!/usr/bin/env python3
 """Fails each of the first COUNT reads of standard input, then each of the first COUNT writes of standard output, one a run, of every command on
-documents of both versions, and looks whether the run ends as README's table says: a failed read with `read fault` and 3, a failed write with a prefix
+documents of both versions, and looks whether the run ends as docs/statuses.md says: a failed read with `read fault` and 3, a failed write with a prefix
 of what the command writes otherwise and 8, each with a sentence on standard error. Reads and writes go in pieces of a few bytes, so that there are
 enough. `bench/faults.py PROGRAM [COUNT]`; 40 if there is no number. It needs gcc."""
 import os

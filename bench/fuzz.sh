@@ -1,6 +1,6 @@
 #!/usr/bin/env bash
 # Runs the program on documents that are made from the examples, from certificates of these and from the texts and documents of reader_rows' rows by
-# one to four small changes each, with one of the commands on documents and certificates, and looks whether it ends with a status of README's table,
+# one to four small changes each, with one of the commands on documents and certificates, and looks whether it ends with a status of docs/statuses.md,
 # with the line on standard output and a sentence on standard error as that status has them. One call in sixteen is a `workload`, with numbers and
 # words that may be wrong; it leaves its document unread. `bench/fuzz.sh COUNT SEED` makes COUNT documents, a million if there is no number; a seed
 # gives the same documents again. With `certificates=yes` in the environment it makes them of certificates alone, and `judge check` judges each. It

@@ -18,7 +18,7 @@ for name in oa oax; do
   [ -x "$program" ] || { echo "tutorial: there is no program $program" >&2; exit 2; }
   printf '#!/usr/bin/env bash\nexec %q "$@"\n' "$program" >"$work/$name" && chmod +x "$work/$name" || exit 2
 done
-PATH=$work:$top/tools:$PATH
+PATH=$work:$top/tools:$PATH examples=$work/examples
 commands=0 differing=0 last=0
 
 # Runs a command, and compares.

@@ -1,15 +1,9 @@
 #!/usr/bin/env python3
 """Draws runs as SVG, from the certificates that `oa judge make` writes.
 
-usage: timeline.py                            draws each docs/pictures/*.cert, with the notes beside it if there are any, as an SVG of its name
-       timeline.py CERTIFICATE [FROM [TO]]    writes the SVG of any certificate to standard output; `-` is standard input
+usage: timeline.py    draws each docs/pictures/*.cert, with the notes beside it if there are any, as an SVG of its name
 
-It needs Python alone.
-
-A certificate is drawn with its calls folded: what a caller does of one call before another caller's event is one box, which counts its
-accesses, and names the nodes that it makes; a call that nobody meets is one box. The number beside a box is the place of its first event,
-counted from 0, as `rejected 1 at P` counts them. FROM and TO are such places: only the boxes from the one to the other are drawn. Whether
-such a run is possible isn't asked here: that is what `oa judge check` does.
+It needs Python alone. tools/oa-timeline draws any certificate with it.
 
 Each docs/pictures/*.cert is what `oa judge make` writes of the document that it begins with, up to its line `events`.
 
@@ -43,6 +37,13 @@ import html
 import os
 import re
 import sys
+
+sys.dont_write_bytecode = True
+HERE = os.path.dirname(os.path.realpath(__file__))
+sys.path[:0] = [HERE, os.path.join(HERE, "..", "..", "tools")]
+from oa_machine import read_certificate
+from oa_text import Flaw
+from oa_tool import USAGE, Failed, Refused, lines_of, name_of, options_of, run_tool, write_file
 
 WIDTH, MARGIN, STEPS, PLACES = 900, 8, 56, 84  # the whole width, the margin, and the width of the column of places, without and with notes
 TEXT, SMALL, LINE = 12, 10.5, 15  # sizes of letters, and the height of a line
@@ -177,13 +178,12 @@ def read_line(run, memory, parts):
 
 def read_notes(path, events, replies):
     run, memory = Run(events, replies), {}
-    with open(path, encoding="ascii") as lines:
-        for number, line in enumerate(map(str.strip, lines), 1):
-            if line and not line.startswith("#"):
-                try:
-                    read_line(run, memory, [part.strip() for part in line.split("|")])
-                except (ValueError, KeyError, IndexError) as error:
-                    sys.exit("%s, line %d: %s" % (path, number, error))
+    for number, line in enumerate(map(str.strip, lines_of(path)), 1):
+        if line and not line.startswith("#"):
+            try:
+                read_line(run, memory, [part.strip() for part in line.split("|")])
+            except (ValueError, KeyError, IndexError) as error:
+                raise Failed("%s, line %d: %s" % (path, number, error)) from None
     return run
 
 
@@ -486,29 +486,16 @@ def counted(count, one, several):
     return "%d %s" % (count, one if count == 1 else several)
 
 
-def read_certificate(name, lines):
+def certificate_of(path, lines):
     """The count of callers, the events as (kind, caller, further words), and the replies of each caller. The text before them isn't read."""
-    state, callers, events, replies = "text", 0, [], {}
-    for number, words in enumerate(map(str.split, lines), 1):
-        if not words or words[0].startswith("#"):
-            continue
-        if (state, words) in (("text", ["schedule"]), ("schedule", ["events"]), ("events", ["replies"])):
-            state = words[0]
-        elif state == "text":
-            callers += words[0] == "script" and len(words) == 2
-        elif state == "events" and words[0] in ("begin", "access", "restart", "full", "phases") and in_range(words, callers):
-            events.append((words[0], int(words[1]), words[2:]))
-        elif state == "replies" and words[0] == "reply" and in_range(words, callers):
-            replies.setdefault(int(words[1]), []).append(" ".join(words[2:]))
-        elif state != "schedule":
-            sys.exit("%s, line %d: this isn't a line of the %s of a certificate" % (name, number, state))
-    if state != "replies":
-        sys.exit("%s: this is no certificate: it has no line `%s`" % (name, {"text": "schedule", "schedule": "events", "events": "replies"}[state]))
-    return callers, events, replies
-
-
-def in_range(words, callers):
-    return len(words) > 1 and words[1].isdigit() and int(words[1]) < callers
+    try:
+        certificate = read_certificate(lines)
+        for number, (_, caller, _) in certificate.events:
+            if caller >= len(certificate.scripts):
+                raise Flaw(number, "there is no script %d" % caller)
+    except Flaw as flaw:
+        raise Refused(path, *flaw.args) from None
+    return len(certificate.scripts), [event for _, event in certificate.events], certificate.replies
 
 
 def folded(events, replies):
@@ -565,14 +552,15 @@ def draw_box(sheet, box, x, y, width):
     return height
 
 
-def draw_certificate(name, lines, first=0, last=None):
+def draw_certificate(path, lines, first=0, last=None):
     """The SVG of a certificate: a column for each caller, and a bar beside each call, from its begin to its end."""
-    callers, events, replies = read_certificate(name, lines)
+    name = name_of(path)
+    callers, events, replies = certificate_of(path, lines)
     if not 1 <= callers <= MOST_CALLERS:
-        sys.exit("%s: a run has 1 to %d callers, and this certificate has %d scripts" % (name, MOST_CALLERS, callers))
+        raise Failed("%s: a run has 1 to %d callers, and this certificate has %d scripts" % (name, MOST_CALLERS, callers))
     boxes = [box for box in folded(events, replies) if box.last >= first and (last is None or box.first <= last)]
     if len(boxes) > MOST_BOXES:
-        sys.exit("%s: %d boxes are too many to draw: say from which event to which, as in `timeline.py %s 0 1000`" % (name, len(boxes), name))
+        raise Failed("%s: %d boxes are too many to draw: say from which event to which, as in `oa-timeline %s 0 1000`" % (name, len(boxes), name))
     sheet, y, column = Sheet(), 92.0, min((WIDTH - 2 * MARGIN - STEPS) / callers, 300.0)
     left = [MARGIN + STEPS + column * caller for caller in range(callers)]
     title = os.path.basename(name)
@@ -600,32 +588,21 @@ def draw_folder(folder, into):
     """Draws the certificates of a folder, those that have notes with these."""
     for path in sorted(glob.glob(os.path.join(folder, "*.cert"))):
         notes, name = path[:-5] + ".notes", os.path.basename(path)[:-5]
-        with open(path, encoding="ascii") as lines:
-            if not os.path.exists(notes):
-                write(into, name, draw_certificate(path, lines))
-                continue
-            run = read_notes(notes, *read_certificate(path, lines)[1:])
-        write(into, name, Drawing(run, run.rows).svg())
+        lines = lines_of(path)
+        if not os.path.exists(notes):
+            write_file(os.path.join(into, name + ".svg"), draw_certificate(path, lines))
+            continue
+        run = read_notes(notes, *certificate_of(path, lines)[1:])
+        write_file(os.path.join(into, name + ".svg"), Drawing(run, run.rows).svg())
         if run.small:
-            write(into, run.small, Drawing(run, parts_alone(run.rows)).svg())
+            write_file(os.path.join(into, run.small + ".svg"), Drawing(run, parts_alone(run.rows)).svg())
 
 
-def write(folder, name, picture):
-    with open(os.path.join(folder, name + ".svg"), "w", encoding="utf-8") as out:
-        out.write(picture)
-
-
-def main():
-    words = sys.argv[1:]
-    here = os.path.dirname(os.path.realpath(__file__))
-    if not words and glob.glob(os.path.join(here, "*.cert")):
-        return draw_folder(here, here)
-    if not 1 <= len(words) <= 3 or (words[0].startswith("-") and words[0] != "-") or not all(word.isdigit() for word in words[1:]):
-        sys.exit(__doc__[__doc__.index("usage"):__doc__.index("It needs")].rstrip())
-    with open(0 if words[0] == "-" else words[0], encoding="ascii", errors="replace") as lines:
-        picture = draw_certificate("standard input" if words[0] == "-" else words[0], lines, *map(int, words[1:]))
-    sys.stdout.buffer.write(picture.encode("utf-8"))
+def main(words):
+    if options_of(words, {})[1]:
+        raise Failed("it takes no words; a certificate is drawn by tools/oa-timeline", USAGE)
+    draw_folder(HERE, HERE)
 
 
 if __name__ == "__main__":
-    main()
+    run_tool(main, __doc__)

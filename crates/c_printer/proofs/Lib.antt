@@ -1,5 +1,6 @@
 pub mod LocalsPut
 pub mod ClaimsPut
+pub mod Counted
 pub mod LineBack
 pub mod TokensBack
 pub mod LinesBack

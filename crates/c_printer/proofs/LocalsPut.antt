@@ -1,5 +1,5 @@
 -- One local after another.
-use Rattle.std.proofs.Common.{◌≡◌, ℕ, zero, suc, ◌+◌, ◌<◌, List, [], ◌∷◌, ◌++◌, length, drop, refl, ap, ◌∙◌, sym, append_assoc, arith}
+use Rattle.std.proofs.Common.{◌≡◌, ℕ, zero, suc, ◌+◌, ◌<◌, ◌≤◌, List, [], ◌∷◌, ◌++◌, length, drop, refl, ap, ◌∙◌, sym, append_assoc, arith}
 use Rattle.c_printer.specs.Words.{local_name}
 use Rattle.c_printer.specs.Functions.{local_text, local_texts}
 
@@ -9,6 +9,12 @@ drop_local (name ∷ names) zero lt = refl
 drop_local (name ∷ names) (suc d) lt =
     let e : suc (d + 1) ≡ suc d + 1 = omega arith in
     drop_local names d (omega (arith, lt)) ∙ ap (λ (k : ℕ). local_name names d ∷ drop k (name ∷ names)) e
+
+-- past the end of a table there is no name
+pub no_local : (names : List (List ℕ)) (d : ℕ) → length names ≤ d → [] ≡ local_name names d
+no_local [] d le = refl
+no_local (name ∷ names) zero le = absurd (let f : ⊥ = omega (arith, le) in f)
+no_local (name ∷ names) (suc d) le = no_local names d (omega (arith, le))
 
 -- what is left after a local was put
 pub local_more : (names : List (List ℕ)) (d : ℕ) (old new whole : List ℕ) → d < length names → new ≡ old ++ local_text (local_name names d)

@@ -1,5 +1,5 @@
 -- The element of a place is inside its array, and tells the place's word.
-use Rattle.std.proofs.Common.{◌≡◌, ℕ, ◌+◌, ◌-◌, ◌*◌, ◌/◌, ◌%◌, ◌<◌, ◌≤◌, ◌^◌, true, false, ◌&&◌, ◌||◌, List, length, if◌then◌else◌, ◌==◌, inl, inr, ⊎_elim, refl, sym, ◌∙◌, ap, subst, arith}
+use Rattle.std.proofs.Common.{◌≡◌, ℕ, ◌+◌, ◌-◌, ◌*◌, ◌/◌, ◌%◌, ◌<◌, ◌≤◌, ◌^◌, Bool, true, false, ◌&&◌, ◌||◌, List, length, if◌then◌else◌, ◌==◌, inl, inr, ⊎_elim, refl, sym, ◌∙◌, ap, subst, arith}
 use Rattle.std.specs.Prelude.{nat_lt, nat_le, slice_index}
 use Rattle.std.proofs.lemmas.Bool.{and_parts, cases_Bool, cases_lt, eqb-true}
 use Rattle.std.proofs.lemmas.Bool.Decides.{nat_tests}
@@ -8,8 +8,8 @@ use Rattle.oa_words.specs.SlotKinds.{sum_before, slots_of, kind_of}
 use Rattle.oa_words.proofs.KindRanges.{stands_in_range, part_within}
 use Rattle.c_language.specs.declared.lines.Place.{Place}
 use Rattle.c_language.specs.declared.lines.Place.TheVariants as places
-use Rattle.c_language.specs.Steps.{Pool, operand, has_field, place, wrap}
-use Rattle.c_printer.specs.Lvalues.{Array, PhaseWord, Warnings, Hazards, Statuses, Links, Heads, Fields, Roots, Element, below, root_stride, array_size, node, field_index, element, IsStride, HasStrides, IsThere, LvaluesStandApart}
+use Rattle.c_language.specs.Steps.{Pool, operand, has_field, is_null, place, wrap}
+use Rattle.c_printer.specs.Lvalues.{Array, PhaseWord, Warnings, Hazards, Statuses, Links, Heads, Fields, Roots, Element, below, root_stride, array_size, node, field_index, root_index, element, IsStride, HasStrides, IsThere, LvaluesStandApart}
 
 -- ---- fields
 
@@ -167,9 +167,61 @@ inside pool strides has locals (places.Root x a) there =
 inside pool strides has locals (places.Head k) there = less (operand pool locals k) (length pool.sizes.kinds) there.within
 inside pool strides has locals (places.Link j) there = less (operand pool locals j) (pool.sizes.slots + 1) there.within
 
+-- ---- one element for each word
+
+abbrev field_element : Pool → List ℕ → ℕ → ℕ → ℕ → Element
+field_element pool strides j g k = record { array = Fields k; at = field_index pool strides k j g }
+
+-- the element of a word: the fields of a slot are in the array of its kind
+abbrev element_of : Pool → List ℕ → Word → Element
+element_of pool strides (Warning c) = record { array = Warnings; at = c }
+element_of pool strides (Hazard c r) = record { array = Hazards c; at = r }
+element_of pool strides (Status j) = record { array = Statuses; at = j }
+element_of pool strides (FieldOf j g) = field_element pool strides j g (kind_of pool.sizes j)
+element_of pool strides (Cell x) = record { array = Roots; at = root_index pool x }
+element_of pool strides (Head k) = record { array = Heads; at = k }
+element_of pool strides (Link j) = record { array = Links; at = j }
+element_of pool strides _ = record { array = PhaseWord; at = 0 }
+
+kind_told : (pool : Pool) (k j g : ℕ) → has_field pool k j g ≡ true → (j == 0) ≡ false → kind_of pool.sizes j ≡ k
+kind_told pool k j g is other =
+    let parts = and_parts (nat_lt g (slice_index pool.fields k)) (j == 0 || (nat_le j pool.sizes.slots && (kind_of pool.sizes j == k))) is in
+    let both = and_parts (nat_le j pool.sizes.slots) (kind_of pool.sizes j == k) (rw other at parts.1) in
+    eqb-true (kind_of pool.sizes j) k both.1
+
+by_word : (pool : Pool) (strides : List ℕ) (locals : ℕ → ℕ) (p : Place) → IsThere pool locals p → is_null pool locals p ≡ false
+    → element pool strides locals p ≡ element_of pool strides (place pool locals p)
+by_word pool strides locals places.Phase there other = refl
+by_word pool strides locals (places.Warning c) there other = refl
+by_word pool strides locals (places.Hazard c r) there other = refl
+by_word pool strides locals (places.Status j) there other = refl
+by_word pool strides locals (places.Field k j g) there other =
+    ap (field_element pool strides (operand pool locals j) g) (sym (kind_told pool k (operand pool locals j) g there.is other))
+by_word pool strides locals (places.Root x a) there other = refl
+by_word pool strides locals (places.Head k) there other = refl
+by_word pool strides locals (places.Link j) there other = refl
+
+abbrev is_null_word : Word → Bool
+is_null_word (FieldOf j g) = j == 0
+is_null_word _ = false
+
+null_told : (pool : Pool) (locals : ℕ → ℕ) (p : Place) → is_null pool locals p ≡ is_null_word (place pool locals p)
+null_told pool locals places.Phase = refl
+null_told pool locals (places.Warning c) = refl
+null_told pool locals (places.Hazard c r) = refl
+null_told pool locals (places.Status j) = refl
+null_told pool locals (places.Field k j g) = refl
+null_told pool locals (places.Root x a) = refl
+null_told pool locals (places.Head k) = refl
+null_told pool locals (places.Link j) = refl
+
 pub lvalues_apart : LvaluesStandApart
 lvalues_apart pool strides has = record {
   within = inside pool strides has;
   apart = λ locals others p q here there same.
       sym (tells pool strides has locals p here) ∙ ap (λ (e : Element). word_at pool strides e.array e.at) same ∙ tells pool strides has others q there;
+  one = λ locals others p q here there other same.
+      let also : is_null pool others q ≡ false
+      = null_told pool others q ∙ ap is_null_word (sym same) ∙ sym (null_told pool locals p) ∙ other in
+      by_word pool strides locals p here other ∙ ap (element_of pool strides) same ∙ sym (by_word pool strides others q there also);
 }

@@ -1,19 +1,22 @@
--- What a header's bytes say: its functions, line by line. Nothing here says how lines are printed; what stands before the functions, and the head
--- of each, must be as it is printed.
-use Rattle.std.specs.Prelude.{ℕ, zero, suc, ◌+◌, Bool, true, false, ◌&&◌, not, List, [], ◌∷◌, map, Option, Some, None, if◌then◌else◌, ◌==◌}
+-- What a header's bytes say: its functions, line by line. Nothing here says how lines are printed; what stands before the functions, the head of
+-- each, and what stands behind them must be as it is printed.
+use Rattle.std.specs.Prelude.{ℕ, zero, suc, ◌+◌, Bool, true, false, ◌&&◌, not, List, [], ◌∷◌, ◌++◌, map, Option, Some, None, if◌then◌else◌, ◌==◌}
 use Rattle.std.specs.List.{list_any}
 use Rattle.std.specs.Str.{bytes_eq}
 use Rattle.oa_text.specs.Lines.{lines_of}
 use Rattle.oa_text.specs.Tokens.{words_of}
+use Rattle.norm_lang.specs.declared.text.RootDecl.{RootDecl}
+use Rattle.norm_lang.specs.declared.text.NodeDecl.{NodeDecl}
 use Rattle.c_language.specs.declared.lines.Line.{Line}
+use Rattle.c_printer.specs.declared.operations.Operation.{Operation}
 use Rattle.c_printer.specs.declared.tokens.Sign.TheVariants as signs
 use Rattle.c_printer.specs.declared.tokens.Token.{Token}
 use Rattle.c_printer.specs.declared.tokens.Token.TheVariants as tokens
-use Rattle.c_printer.specs.Names.{claim_names}
 use Rattle.c_printer.specs.Lexing.{after_said, tokens_said}
 use Rattle.c_printer.specs.Reading.{is_sign, past, line_said}
-use Rattle.c_printer.specs.Functions.{jumps_to, head_text}
-use Rattle.c_printer.specs.Header.{front_text}
+use Rattle.c_printer.specs.Functions.{jumps_to, Function, claim_function}
+use Rattle.c_printer.specs.Operations.{operation_function}
+use Rattle.c_printer.specs.Header.{front_text, closing}
 
 -- a line that was read, and whether a label stands before it
 pub record Placed : Type 0 where
@@ -73,17 +76,40 @@ lines_behind [] lines = Some lines
 lines_behind (front ∷ fronts) [] = None
 lines_behind (front ∷ fronts) (line ∷ lines) = if bytes_eq line front then lines_behind fronts lines else None
 
-abbrev pub function_said : List ℕ → List ℕ → ℕ → List (List ℕ) → Option FunctionRead
-function_said name strides kind lines =
-    after_said (lines_behind (lines_of (head_text name strides claim_names kind)) lines) (λ rest. after_said (code_said name claim_names 0 rest) function_of)
+-- what is known of a function before it is read: the names of its locals, and its head without the newline at its end
+pub record Head : Type 0 where
+  pub names : List (List ℕ)
+  pub front : List ℕ
 
--- so many claims, of which the first is of this kind
-abbrev pub functions_said : List ℕ → List ℕ → ℕ → ℕ → List (List ℕ) → Option (List (List Line))
-functions_said name strides kind zero lines = Some []
-functions_said name strides kind (suc count) lines =
-    after_said (function_said name strides kind lines) (λ read. after_said (functions_said name strides (kind + 1) count read.rest) (λ claims. Some (read.code ∷ claims)))
+abbrev pub head_of : Function → Head
+head_of function = record { names = function.names; front = function.front }
 
--- the claims of a header
-abbrev pub header_said : List ℕ → List ℕ → ℕ → ℕ → List ℕ → Option (List (List Line))
-header_said name strides roots count bytes =
-    after_said (lines_behind (lines_of (front_text name strides roots)) (lines_of bytes)) (functions_said name strides 0 count)
+abbrev pub function_said : List ℕ → Head → List (List ℕ) → Option FunctionRead
+function_said name head lines =
+    after_said (lines_behind (lines_of (head.front ++ 10 ∷ [])) lines) (λ rest. after_said (code_said name head.names 0 rest) function_of)
+
+-- no function, if no line of bytes is left
+abbrev pub none_left : List (List ℕ) → Option (List (List Line))
+none_left [] = Some []
+none_left (line ∷ lines) = None
+
+-- functions with these heads, and then the end of the header and nothing else
+abbrev pub functions_said : List ℕ → List Head → List (List ℕ) → Option (List (List Line))
+functions_said name [] lines = after_said (lines_behind (lines_of (closing name)) lines) none_left
+functions_said name (head ∷ heads) lines =
+    after_said (function_said name head lines) (λ read. after_said (functions_said name heads read.rest) (λ codes. Some (read.code ∷ codes)))
+
+-- the heads of so many claims, of which the first is of this kind
+abbrev pub claim_heads : List ℕ → List ℕ → ℕ → ℕ → List Head
+claim_heads name strides kind zero = []
+claim_heads name strides kind (suc count) = head_of (claim_function name strides kind []) ∷ claim_heads name strides (kind + 1) count
+
+-- those of operations, whose lines don't matter
+abbrev pub operation_heads : List ℕ → List ℕ → List Operation → List Head
+operation_heads name strides operations = map (λ operation. head_of (operation_function name strides operation)) operations
+
+-- the lines of the functions of a header: those of so many claims, and then those of operations with these names and counts of arguments
+abbrev pub header_said : List ℕ → List ℕ → List RootDecl → List NodeDecl → ℕ → List Operation → List ℕ → Option (List (List Line))
+header_said name strides roots nodes count operations bytes =
+    after_said (lines_behind (lines_of (front_text name strides roots nodes operations ++ 10 ∷ [])) (lines_of bytes))
+    (functions_said name (claim_heads name strides 0 count ++ operation_heads name strides operations))

@@ -6,7 +6,8 @@ use Rattle.c_language.specs.declared.lines.Line.TheVariants as lines
 use Rattle.c_printer.specs.declared.tokens.Sign.TheVariants as signs
 use Rattle.c_printer.specs.declared.tokens.Token.{Token}
 use Rattle.c_printer.specs.declared.tokens.Token.TheVariants as tokens
-use Rattle.c_printer.specs.declared.templates.TheConstants.{CLAIM_HEAD, FIRST_KIND, FURTHER_KIND, LOCAL}
+use Rattle.c_printer.specs.declared.templates.TheConstants.{CLAIM_HEAD, FIRST_KIND, FURTHER_KIND, LOCAL, POOL_NAMES}
+use Rattle.c_printer.specs.Names.{claim_names}
 use Rattle.c_printer.specs.Words.{token_line}
 use Rattle.c_printer.specs.Tokens.{sign, line_tokens}
 use Rattle.c_printer.specs.Filling.{filled}
@@ -42,13 +43,29 @@ local_text name = filled name 0 0 LOCAL.now
 abbrev pub local_texts : List (List ℕ) → List ℕ
 local_texts names = flat_map local_text names
 
+-- what a function reads of the pool
+unfoldable pub pool_names : List ℕ → List ℕ
+pool_names name = filled name 0 0 POOL_NAMES.now
+
 unfoldable pub claim_head : List ℕ → ℕ → List ℕ
 claim_head name kind = filled name kind 0 CLAIM_HEAD.now
 
--- the head of a kind's claim, with its newline
-abbrev pub head_text : List ℕ → List ℕ → List (List ℕ) → ℕ → List ℕ
-head_text name strides names kind = (claim_head name kind ++ (kind_texts 0 strides ++ local_texts names)) ++ 10 ∷ []
+-- the head of a kind's claim, without the newline at its end
+abbrev pub claim_front : List ℕ → List ℕ → ℕ → List ℕ
+claim_front name strides kind = claim_head name kind ++ (pool_names name ++ (kind_texts 0 strides ++ local_texts claim_names))
 
-abbrev pub function_text : List ℕ → List ℕ → List (List ℕ) → ℕ → List Line → List ℕ
-function_text name strides names kind code =
-    head_text name strides names kind ++ (code_text name names code 0 code ++ token_line name names (sign signs.CloseBrace ∷ []))
+-- a function: the names of its locals, its head without the newline at its end, and its lines
+pub record Function : Type 0 where
+  pub names : List (List ℕ)
+  pub front : List ℕ
+  pub code : List Line
+
+abbrev pub claim_function : List ℕ → List ℕ → ℕ → List Line → Function
+claim_function name strides kind code = record { names = claim_names; front = claim_front name strides kind; code = code }
+
+-- the lines of a function and its end
+abbrev pub body_text : List ℕ → List (List ℕ) → List Line → List ℕ
+body_text name names code = code_text name names code 0 code ++ token_line name names (sign signs.CloseBrace ∷ [])
+
+abbrev pub function_text : List ℕ → Function → List ℕ
+function_text name function = function.front ++ (10 ∷ body_text name function.names function.code)

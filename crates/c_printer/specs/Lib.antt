@@ -5,6 +5,8 @@ pub mod Lexing
 pub mod Reading
 pub mod Filling
 pub mod Functions
+pub mod Operations
+pub mod Starts
 pub mod Header
 pub mod Fitting
 pub mod FileRead

@@ -1,12 +1,12 @@
--- Places as lvalues: which element of which array the printed tokens of a place are, by the arithmetic of C, and that each is inside its array and no
--- two words have the same. The arrays are those that the header asks memory for.
-use Rattle.std.specs.Prelude.{◌≡◌, ◌⊎◌, ℕ, ◌+◌, ◌-◌, ◌*◌, ◌<◌, ◌≤◌, ◌^◌, true, List, length, nat_lt, nat_le, if◌then◌else◌, slice_index}
+-- Places as lvalues: which element of which array the printed tokens of a place are, by the arithmetic of C, that each is inside its array, that no
+-- two words have the same, and that no word but a field of null has two. The arrays are those that the header asks memory for.
+use Rattle.std.specs.Prelude.{◌≡◌, ◌⊎◌, ℕ, ◌+◌, ◌-◌, ◌*◌, ◌<◌, ◌≤◌, ◌^◌, true, false, List, length, nat_lt, nat_le, if◌then◌else◌, slice_index}
 use Rattle.oa_words.specs.Words.{in_row}
 use Rattle.oa_words.specs.SlotKinds.{slots_of, first_of}
 use Rattle.oa_words.specs.Within.{AreKinds}
 use Rattle.c_language.specs.declared.lines.Place.{Place}
 use Rattle.c_language.specs.declared.lines.Place.TheVariants as places
-use Rattle.c_language.specs.Steps.{Pool, operand, place, is_place, wrap}
+use Rattle.c_language.specs.Steps.{Pool, operand, place, is_place, is_null, wrap}
 
 -- the phase's word; of each caller, its warning, and its eight hazards; by slot, statuses and links; by kind, heads, and an array of fields; the roots
 pub data Array : Type 0 where
@@ -86,6 +86,8 @@ pub record PlacesAreLvalues (pool : Pool) (strides : List ℕ) : Type 0 where
   pub within : (locals : ℕ → ℕ) (p : Place) → IsThere pool locals p → (element pool strides locals p).at < array_size pool strides (element pool strides locals p).array
   pub apart : (locals others : ℕ → ℕ) (p q : Place) → IsThere pool locals p → IsThere pool others q → element pool strides locals p ≡ element pool strides others q
       → place pool locals p ≡ place pool others q
+  pub one : (locals others : ℕ → ℕ) (p q : Place) → IsThere pool locals p → IsThere pool others q → is_null pool locals p ≡ false
+      → place pool locals p ≡ place pool others q → element pool strides locals p ≡ element pool strides others q
 
 -- in every pool
 abbrev pub LvaluesStandApart : Type 0

@@ -5,15 +5,27 @@ use Rattle.std.specs.Str.{bytes_eq}
 use Rattle.norm_lang.specs.Limits.{are_different}
 use Rattle.c_printer.specs.Lexing.{sign_said, parameter_said, numbered_said}
 use Rattle.c_printer.specs.declared.locals.Table.{Table}
-use Rattle.c_printer.specs.declared.locals.Table.TheVariants.{Claims}
+use Rattle.c_printer.specs.declared.locals.Table.TheVariants.{Claims, Operations}
 
 abbrev pub claim_names : List (List ℕ)
 claim_names =
     codes "sweeps" ∷ codes "top" ∷ codes "slot" ∷ codes "other" ∷ codes "found" ∷ codes "word" ∷ codes "bound" ∷ codes "each" ∷ codes "number"
     ∷ codes "state" ∷ codes "old" ∷ codes "phase" ∷ codes "kind" ∷ []
 
+-- the registers of numbers and of references; the arguments; the warning that was seen and what stands in the own hazards; a word that was found,
+-- a slot, another word, and how many exchanges were made; and what the registers held at the start of the wrap-up
+abbrev pub operation_names : List (List ℕ)
+operation_names =
+    codes "n0" ∷ codes "n1" ∷ codes "n2" ∷ codes "n3" ∷ codes "n4" ∷ codes "n5" ∷ codes "n6" ∷ codes "n7" ∷ codes "r0" ∷ codes "r1" ∷ codes "r2"
+    ∷ codes "r3" ∷ codes "r4" ∷ codes "r5" ∷ codes "r6" ∷ codes "r7" ∷ codes "a0" ∷ codes "a1" ∷ codes "a2" ∷ codes "a3" ∷ codes "seen" ∷ codes "h0"
+    ∷ codes "h1" ∷ codes "h2" ∷ codes "h3" ∷ codes "h4" ∷ codes "h5" ∷ codes "h6" ∷ codes "h7" ∷ codes "found" ∷ codes "slot" ∷ codes "word"
+    ∷ codes "made" ∷ codes "keptn0" ∷ codes "keptn1" ∷ codes "keptn2" ∷ codes "keptn3" ∷ codes "keptn4" ∷ codes "keptn5" ∷ codes "keptn6"
+    ∷ codes "keptn7" ∷ codes "keptr0" ∷ codes "keptr1" ∷ codes "keptr2" ∷ codes "keptr3" ∷ codes "keptr4" ∷ codes "keptr5" ∷ codes "keptr6"
+    ∷ codes "keptr7" ∷ []
+
 abbrev pub names_of : Table → List (List ℕ)
 names_of Claims = claim_names
+names_of Operations = operation_names
 
 abbrev pub is_letter : ℕ → Bool
 is_letter b = nat_le 97 b && nat_le b 122

@@ -1,15 +1,15 @@
 //! Functions: a head, lines, and the end.
 
-ghost use Rattle.std.specs.Prelude.{◌≡◌, ℕ, ◌++◌, OnOk, IfOk};
+ghost use Rattle.std.specs.Prelude.{◌≡◌, ℕ, ◌++◌, ◌∷◌, OnOk, IfOk};
 ghost use Rattle.std.specs.List.{list_any};
 ghost use Rattle.c_printer.specs.Names.{names_of};
-ghost use Rattle.c_printer.specs.Functions.{jumps_to, placed_tokens, code_text, kind_text, kind_texts, local_text, local_texts, claim_head, head_text, function_text};
+ghost use Rattle.c_printer.specs.Functions.{jumps_to, placed_tokens, code_text, kind_text, kind_texts, local_text, local_texts, pool_names, claim_head, claim_front, claim_function, body_text, function_text};
 ghost use Rattle.c_printer.specs.declared.locals.Table.TheVariants.{Claims};
 
 use crate::filling::put_filled;
 use crate::lines::add_line;
 use crate::locals::{Table, local_count, local_name};
-use crate::templates::{CLAIM_HEAD, FIRST_KIND, FURTHER_KIND, LOCAL};
+use crate::templates::{CLAIM_HEAD, FIRST_KIND, FURTHER_KIND, LOCAL, POOL_NAMES};
 use crate::tokens::{Sign, Token, put_tokens};
 use c_language::lines::Line;
 use std::alloc::{AllocError, Global};
@@ -104,6 +104,32 @@ fn put_locals(alloc: Global, out: &mut Vec<u8>, table: Table) -> Result<(), Allo
     Ok(())
 }
 
+#[tactic(auto, unfolding(crate::specs::Functions::pool_names))]
+fn put_pool_names(alloc: Global, out: &mut Vec<u8>, name: &[u8]) -> Result<(), AllocError>
+    ensures { OnOk result (out.new.items ≡ out.old.items ++ pool_names name.now) }
+{
+    put_filled(alloc, out, name, 0, 0, POOL_NAMES)
+}
+
+/// Adds what a function names: what it reads of the pool, the names of kinds, and its locals.
+///
+/// # Errors
+/// Memory ran out.
+pub fn put_names(
+    alloc: Global,
+    out: &mut Vec<u8>,
+    name: &[u8],
+    strides: &[u64],
+    table: Table,
+) -> Result<(), AllocError>
+    ensures { OnOk result
+        (out.new.items ≡ out.old.items ++ (pool_names name.now ++ (kind_texts 0 strides.now ++ local_texts (names_of table)))) }
+{
+    put_pool_names(alloc, out, name)?;
+    put_kinds(alloc, out, strides)?;
+    put_locals(alloc, out, table)
+}
+
 #[tactic(auto, unfolding(crate::specs::Functions::claim_head))]
 fn put_claim_head(
     alloc: Global,
@@ -116,22 +142,22 @@ fn put_claim_head(
     put_filled(alloc, out, name, kind, 0, CLAIM_HEAD)
 }
 
-/// Adds the head of a claim: its parameters, what it reads of the pool, and its locals.
-fn put_head(
+/// Adds the lines of a function, between the newline of its head and its end.
+///
+/// # Errors
+/// Memory ran out.
+pub fn put_body(
     alloc: Global,
     out: &mut Vec<u8>,
     name: &[u8],
-    strides: &[u64],
     table: Table,
-    kind: u64,
+    code: &[Line],
 ) -> Result<(), AllocError>
-    ensures { OnOk result (out.new.items ≡ out.old.items ++ head_text name.now strides.now (names_of table) kind) }
+    ensures { OnOk result (out.new.items ≡ out.old.items ++ (10 ∷ body_text name.now (names_of table) code.now)) }
 {
-    put_claim_head(alloc, out, name, kind)?;
-    put_kinds(alloc, out, strides)?;
-    put_locals(alloc, out, table)?;
     out.push(b'\n')?;
-    Ok(())
+    put_code(alloc, out, name, table, code)?;
+    put_tokens(alloc, out, name, table, &[Token::Sign(Sign::CloseBrace)])
 }
 
 /// Adds the claim of a kind, with these lines.
@@ -146,15 +172,10 @@ pub fn put_claim(
     kind: u64,
     code: &[Line],
 ) -> Result<(), AllocError>
-    ensures { OnOk result (out.new.items ≡ out.old.items ++ function_text name.now strides.now (names_of Claims) kind code.now) }
+    ensures { OnOk result
+        (out.new.items ≡ out.old.items ++ function_text name.now (claim_function name.now strides.now kind code.now)) }
 {
-    put_head(alloc, out, name, strides, Table::Claims, kind)?;
-    put_code(alloc, out, name, Table::Claims, code)?;
-    put_tokens(
-        alloc,
-        out,
-        name,
-        Table::Claims,
-        &[Token::Sign(Sign::CloseBrace)],
-    )
+    put_claim_head(alloc, out, name, kind)?;
+    put_names(alloc, out, name, strides, Table::Claims)?;
+    put_body(alloc, out, name, Table::Claims, code)
 }

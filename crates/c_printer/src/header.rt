@@ -1,14 +1,20 @@
 //! A header: its declarations, structures and functions, and its end.
 
 ghost use Rattle.std.specs.Prelude.{◌≡◌, ◌++◌, length, OnOk, IfOk};
-ghost use Rattle.c_printer.specs.Header.{claim_text, claim_texts, declarations, structures, stride_text, stride_texts, opening, closing, front_text, function_texts, header_text};
+ghost use Rattle.c_printer.specs.Header.{claim_text, claim_texts, declarations, structures, stride_text, stride_texts, opening, closing, declared_text, structured_text, function_texts, header_text};
+ghost use Rattle.c_printer.specs.Operations.{declaration_texts, operation_texts};
+ghost use Rattle.c_printer.specs.Starts.{start_text};
 
 use crate::filling::put_filled;
 use crate::functions::put_claim;
+use crate::operations::{
+    Operation, put_declarations as put_operation_declarations, put_operations,
+};
+use crate::starts::put_start;
 use crate::templates::{CLAIM, CLOSING, DECLARATIONS, OPENING, STRIDE, STRUCTURES};
 use c_language::lines::Line;
 use norm_lang::list::Listed;
-use norm_lang::text::ByteText;
+use norm_lang::text::{ByteText, NodeDecl, RootDecl};
 use std::alloc::{AllocError, Global};
 
 /// The lines of a function.
@@ -96,24 +102,36 @@ fn put_closing(alloc: Global, out: &mut Vec<u8>, name: &[u8]) -> Result<(), Allo
     put_filled(alloc, out, name, 0, 0, CLOSING)
 }
 
-/// Adds what stands before the functions.
-fn put_front(
+/// Adds the declarations of the pool, of so many claims and of operations.
+fn put_all_declarations(
+    alloc: Global,
+    out: &mut Vec<u8>,
+    name: &[u8],
+    kinds: u64,
+    operations: &[Operation],
+) -> Result<(), AllocError>
+    ensures { OnOk result (out.new.items ≡ out.old.items ++ declared_text name.now kinds operations.now) }
+{
+    put_declarations(alloc, out, name, kinds)?;
+    put_claim_texts(alloc, out, name, kinds)?;
+    put_operation_declarations(alloc, out, name, operations)
+}
+
+/// Adds the structures of the pool, and what it opens with.
+fn put_all_structures(
     alloc: Global,
     out: &mut Vec<u8>,
     name: &[u8],
     strides: &[u64],
-    roots: u64,
+    roots: &[RootDecl],
+    nodes: &[NodeDecl],
 ) -> Result<(), AllocError>
-    ensures { OnOk result (out.new.items ≡ out.old.items ++ front_text name.now strides.now roots) }
+    ensures { OnOk result (out.new.items ≡ out.old.items ++ structured_text name.now strides.now roots.now nodes.now) }
 {
-    let kinds = strides.len() as u64;
-    put_declarations(alloc, out, name, kinds)?;
-    put_claim_texts(alloc, out, name, kinds)?;
-    put_structures(alloc, out, name, kinds, roots)?;
+    put_structures(alloc, out, name, strides.len() as u64, roots.len() as u64)?;
     put_stride_texts(alloc, out, strides)?;
-    put_opening(alloc, out, name)?;
-    out.push(b'\n')?;
-    Ok(())
+    put_start(alloc, out, name, roots, nodes)?;
+    put_opening(alloc, out, name)
 }
 
 fn put_functions(
@@ -131,8 +149,8 @@ fn put_functions(
     Ok(())
 }
 
-/// The header of a name: for kinds of nodes with so many words from one node to the next, with so many roots, and with these claims, one of
-/// each kind.
+/// The header of a name: for kinds of nodes with so many words from one node to the next, with these roots and initial nodes, these claims, one of
+/// each kind, and these operations.
 ///
 /// # Errors
 /// Memory ran out.
@@ -140,14 +158,20 @@ pub fn header(
     alloc: Global,
     name: &[u8],
     strides: &[u64],
-    roots: u64,
+    roots: &[RootDecl],
+    nodes: &[NodeDecl],
     claims: &[Lines],
+    operations: &[Operation],
 ) -> Result<ByteText, AllocError>
-    ensures { IfOk result (λ text. text ≡ header_text name.now strides.now roots claims.now) }
+    ensures { IfOk result
+        (λ text. text ≡ header_text name.now strides.now roots.now nodes.now claims.now operations.now) }
 {
     let mut out = Vec::new(alloc);
-    put_front(alloc, &mut out, name, strides, roots)?;
+    put_all_declarations(alloc, &mut out, name, strides.len() as u64, operations)?;
+    put_all_structures(alloc, &mut out, name, strides, roots, nodes)?;
+    out.push(b'\n')?;
     put_functions(alloc, &mut out, name, strides, claims)?;
+    put_operations(alloc, &mut out, name, strides, operations)?;
     put_closing(alloc, &mut out, name)?;
     Ok(Listed::from_vec(out))
 }

@@ -18,12 +18,13 @@ pub fn lines_read_back()
     ensures { LinesReadBack }
 {}
 
-/// The bytes of a header say the claims that it was printed from.
+/// The bytes of a header say the lines of the claims and operations that it was printed from.
 pub fn headers_read_back()
     ensures { HeadersReadBack }
 {}
 
-/// The printed place of each word is an element inside its array, and different words are different elements.
+/// The printed place of each word is an element inside its array, different words are different elements, and each word but a field of null
+/// is one element, whatever names it.
 pub fn lvalues_stand_apart()
     ensures { LvaluesStandApart }
 {}

@@ -7,5 +7,7 @@ pub mod header;
 pub mod laws;
 pub mod lines;
 pub mod locals;
+pub mod operations;
+mod starts;
 mod templates;
 pub mod tokens;

@@ -1,12 +1,11 @@
-//! The printed text that no law speaks of: declarations, structures, opening and closing, and the head of a function. It is trusted. In it
+//! The printed text that no law speaks of: declarations, structures, opening and closing, and the heads of functions. It is trusted. In it
 //! `@` stands for a name, and `$` and `~` for numbers. No text ends with a newline: what follows begins with one.
 
 /// From the top of the header to the declarations of claims. `$` is how many kinds there are.
 pub const DECLARATIONS: &[u8] =
     b"/* @.h, written by oac: a pool of slots for lock-free nodes, with optimistic access (Cohen and Petrank, SPAA 2015).
  *
- * This is the first step of oac: it emits the pool, its callers and claims of slots. The operations of the document are not emitted yet, nor
- * are its initial nodes and the first values of its roots: a pool opens with each slot ready, and with 0 in each field and root.
+ * A pool opens with the initial nodes of a document and the first values of its roots.
  *
  * One C file of a program says
  *     #define @_IMPLEMENTATION
@@ -36,20 +35,41 @@ struct @_Pool;
 struct @_Caller;
 
 /* Opens a pool with so many slots of each of the $ kinds, in their order, with 1 to 256 callers, and with a last phase; 0 stands for the
- * greatest. A claim that finds no slot sweeps, and each sweep takes a phase. NULL if a number is out of its range, or memory ran out. */
+ * greatest. Each kind needs a slot, and one for each of its initial nodes. A claim that finds no slot sweeps, and each sweep takes a phase.
+ * NULL if a number is out of its range, or memory ran out. */
 @_LINKAGE struct @_Pool *@_Open(uint64_t const *slots, uint64_t callers, uint64_t last_phase);
 
 /* Gives a pool's memory back, once nobody uses it. */
 @_LINKAGE void @_Close(struct @_Pool *pool);
 
 /* The caller with a number, counted from 0; NULL if there is none. */
-@_LINKAGE struct @_Caller *@_Caller_of(struct @_Pool *pool, uint64_t number);";
+@_LINKAGE struct @_Caller *@_Caller_of(struct @_Pool *pool, uint64_t number);
+
+/* What an operation answers: nothing; a number, which is in *reply; that it found no slot for a node; or that the phases are over, the last
+ * of which is in *reply. */
+enum { @_Nothing = 0, @_Number = 1, @_Full = -1, @_Phases = -2 };";
 
 /// The declaration of a claim. `$` is the kind.
 pub const CLAIM: &[u8] = b"
 
 /* Claims a slot of kind $: its number, 0 if there is none, or UINT64_MAX if the last phase is over. */
 @_LINKAGE uint64_t @_Claim$(struct @_Caller *caller);";
+
+/// What stands before the name of an operation.
+pub const OPERATION: &[u8] = b"
+@_LINKAGE int @_";
+
+/// The first parameter of an operation.
+pub const CALLER: &[u8] = b"(struct @_Caller *caller";
+
+/// An argument. `$` is its number.
+pub const ARGUMENT: &[u8] = b", uint64_t argument_$";
+
+/// The last parameter of an operation.
+pub const REPLY: &[u8] = b", uint64_t *reply)";
+
+/// The end of the declaration of an operation.
+pub const DECLARED: &[u8] = b";";
 
 /// To the strides of kinds. `$` is how many kinds there are, and `~` how many roots.
 pub const STRUCTURES: &[u8] = b"
@@ -65,6 +85,12 @@ pub const STRUCTURES: &[u8] = b"
 #include <stdatomic.h>
 #include <stdlib.h>
 #include <string.h>
+
+/* A slot may be a constant, as that of null is. */
+#ifdef __GNUC__
+#pragma GCC diagnostic push
+#pragma GCC diagnostic ignored \"-Wtype-limits\"
+#endif
 
 #if ATOMIC_LLONG_LOCK_FREE != 2
 #error \"@.h needs atomic words of 64 bits without locks\"
@@ -132,8 +158,42 @@ static uint64_t const @_Strides[@_KINDS] = {";
 /// One of the strides.
 pub const STRIDE: &[u8] = b" ~,";
 
-/// To the functions. `$` is how many kinds there are.
-pub const OPENING: &[u8] = b" };
+/// Between the strides and the first values of roots.
+pub const ROOTS: &[u8] = b" };
+
+/* A first value: of an initial node, by its number from 1 on, or else a number; 0 is null too. */
+struct @_First {
+  uint64_t node, number;
+};
+
+/* An initial node: its kind, and the first values of its fields from the second on. */
+struct @_Node {
+  uint64_t kind;
+  struct @_First value[5];
+};
+
+/* The first values of the roots, and one more. */
+static struct @_First const @_Roots[] = {";
+
+/// A first value: of the initial node `$`, or else the number `~`.
+pub const FIRST: &[u8] = b" { $, UINT64_C(~) },";
+
+/// Between the first values of roots and the initial nodes.
+pub const NODES: &[u8] = b" { 0, 0 } };
+
+/* The initial nodes, and one more, which is of no kind. */
+static struct @_Node const @_Nodes[] = {";
+
+/// An initial node of the kind `$`, before the first values of its fields.
+pub const NODE: &[u8] = b"
+  { $, { { 0, 0 },";
+
+/// The end of an initial node.
+pub const NODE_END: &[u8] = b" } },";
+
+/// From the initial nodes to the functions.
+pub const OPENING: &[u8] = b"
+  { @_KINDS, { { 0, 0 } } } };
 
 /* Zeros, from the beginning of a line on. */
 static void *@_Zeros(uint64_t count, uint64_t size) {
@@ -144,11 +204,18 @@ static void *@_Zeros(uint64_t count, uint64_t size) {
   return zeros;
 }
 
-/* Whether a pool may have these sizes: each kind has a slot, and a head has room for the last slot. */
+/* How many initial nodes of a kind there are among so many. */
+static uint64_t @_Initial(uint64_t kind, uint64_t among) {
+  uint64_t count = 0;
+  for (uint64_t i = 0; i < among; i++) count += @_Nodes[i].kind == kind;
+  return count;
+}
+
+/* Whether a pool may have these sizes: each kind has a slot, and one for each of its initial nodes, and a head has room for the last slot. */
 static int @_Fits(uint64_t const *slots, uint64_t callers, uint64_t last_phase) {
   uint64_t count = 0;
   for (uint64_t k = 0; k < @_KINDS; k++) {
-    if (slots[k] < 1 || slots[k] >> @_SLOT_BITS != 0) return 0;
+    if (slots[k] < 1 || slots[k] < @_Initial(k, sizeof @_Nodes / sizeof *@_Nodes) || slots[k] >> @_SLOT_BITS != 0) return 0;
     count += slots[k];
   }
   return count >> @_SLOT_BITS == 0 && callers >= 1 && callers <= 256 && last_phase >= 1 && last_phase <= UINT64_MAX >> @_SLOT_BITS;
@@ -176,16 +243,39 @@ static int @_Allocate(struct @_Pool *pool, uint64_t const *slots) {
   return 1;
 }
 
-/* Phase 1; each slot is ready in it, and the slots of a kind are chained from the first on. */
+/* The slot of an initial node, whose number is counted from 0: those of a kind stand in its first slots. */
+static uint64_t @_Home(struct @_Pool const *pool, uint64_t node) {
+  return pool->first[@_Nodes[node].kind] + @_Initial(@_Nodes[node].kind, node);
+}
+
+/* The word of a first value: a reference is twice a slot. */
+static uint64_t @_Word(struct @_Pool const *pool, struct @_First first) {
+  return first.node == 0 ? first.number : 2 * @_Home(pool, first.node - 1);
+}
+
+/* The words of an initial node: its slot is used. */
+static void @_Place(struct @_Pool *pool, uint64_t node) {
+  struct @_Node const *const initial = &@_Nodes[node];
+  uint64_t const slot = @_Home(pool, node), stride = @_Strides[initial->kind];
+  _Atomic uint64_t *const field = pool->field[initial->kind] + (slot - pool->first[initial->kind] + 1) * stride;
+  for (uint64_t g = 0; g < stride; g++) atomic_init(&field[g], @_Word(pool, initial->value[g + 1]));
+  atomic_init(&pool->status[slot], 5);
+}
+
+/* Phase 1, of which each caller has been warned. The initial nodes stand in the first slots of their kinds; each other slot is ready, and those
+ * of a kind are chained, the first on top. */
 static void @_Start(struct @_Pool *pool, uint64_t const *slots) {
   uint64_t const tops = UINT64_C(1) << @_SLOT_BITS;
   atomic_init(&pool->phase.word, 1);
+  for (uint64_t c = 0; c < pool->callers; c++) atomic_init(&pool->row[c].warning, 1);
   for (uint64_t j = 0; j <= pool->slots; j++) atomic_init(&pool->status[j], 4);
   atomic_init(&pool->status[0], 5);
+  for (uint64_t i = 0; @_Nodes[i].kind < @_KINDS; i++) @_Place(pool, i);
+  for (uint64_t x = 0; x + 1 < sizeof @_Roots / sizeof *@_Roots; x++) atomic_init(&pool->root[x * @_ROOT_STRIDE], @_Word(pool, @_Roots[x]));
   for (uint64_t k = 0; k < @_KINDS; k++) {
-    uint64_t const first = pool->first[k], past = first + slots[k];
-    for (uint64_t j = first; j + 1 < past; j++) atomic_init(&pool->link[j], j + 1);
-    atomic_init(&pool->head[k].word, tops + first);
+    uint64_t const past = pool->first[k] + slots[k], ready = pool->first[k] + @_Initial(k, sizeof @_Nodes / sizeof *@_Nodes);
+    for (uint64_t j = ready; j + 1 < past; j++) atomic_init(&pool->link[j], j + 1);
+    atomic_init(&pool->head[k].word, tops + (ready < past ? ready : 0));
   }
 }
 
@@ -224,10 +314,17 @@ static void @_Start(struct @_Pool *pool, uint64_t const *slots) {
   return number < pool->callers ? &pool->caller[number] : NULL;
 }";
 
-/// The head of a claim, before the names of kinds. `$` is the kind.
+/// The head of a claim, before the names of the pool. `$` is the kind.
 pub const CLAIM_HEAD: &[u8] = b"
 /* Claims a slot of kind $. */
-@_LINKAGE uint64_t @_Claim$(struct @_Caller *caller) {
+@_LINKAGE uint64_t @_Claim$(struct @_Caller *caller) {";
+
+/// What stands behind the parameters of an operation.
+pub const OPERATION_HEAD: &[u8] = b" {
+  (void)reply;";
+
+/// The names of the pool in a function.
+pub const POOL_NAMES: &[u8] = b"
   struct @_Pool *const pool = caller->pool;
   unsigned char *const noted = caller->noted;
   uint64_t *const cradle = caller->cradle;
@@ -256,7 +353,14 @@ pub const LOCAL: &[u8] = b"
   uint64_t @ = 0;
   (void)@;";
 
+/// The local of an argument becomes the argument. `$` is its number.
+pub const GIVEN: &[u8] = b"
+  a$ = argument_$;";
+
 /// The end of the header.
 pub const CLOSING: &[u8] = b"
+#ifdef __GNUC__
+#pragma GCC diagnostic pop
+#endif
 #endif
 ";

@@ -5,6 +5,7 @@ use Rattle.c_rows.specs.ThreadRows.{ThreadRows}
 pub thread_rows : ThreadRows
 thread_rows = record {
   called = refl;
+  called_within = refl;
   kept = refl;
   not_kept = refl;
   returned_to_nobody = refl;

@@ -31,7 +31,8 @@ inner =
     ∷ []
 
 -- 2: it answers with what stands in the cradle. 3: it returns to nobody. 4: it calls 2, which answers though a function waits. 5: it calls a
--- function that isn't there. 6: it goes on at 2 if the bit of slot 2 was set, and again: it was cleared
+-- function that isn't there. 6: it goes on at 2 if the bit of slot 2 was set, and again: it was cleared. 7: it calls 8, which calls 1, and each of
+-- 7 and 8 adds what it is returned to a local of its own
 abbrev pub functions : List (List Line)
 functions =
     outer
@@ -41,6 +42,8 @@ functions =
     ∷ (lines.Call 0 2 ∷ lines.Reply answers.Nothing (Number 0) ∷ [])
     ∷ (lines.Call 0 9 ∷ lines.Reply answers.Nothing (Number 0) ∷ [])
     ∷ (lines.IfNoted (Number 2) 2 ∷ lines.Reply answers.Nothing (Number 0) ∷ lines.IfNoted (Number 2) 4 ∷ lines.Reply answers.Phases (Number 1) ∷ lines.Reply answers.Number (Number 2) ∷ [])
+    ∷ (lines.Let 0 (values.Is (Number 100)) ∷ lines.Call 1 8 ∷ lines.Let 1 (values.Plus (Local 0) (Local 1)) ∷ lines.Reply answers.Number (Local 1) ∷ [])
+    ∷ (lines.Let 0 (values.Is (Number 20)) ∷ lines.Call 1 1 ∷ lines.Let 1 (values.Plus (Local 0) (Local 1)) ∷ lines.Return (Local 1) ∷ [])
     ∷ []
 
 -- what the caller keeps after 0 ran
@@ -49,6 +52,8 @@ kept_after = note 2 true (keep 3 7 kept_begun)
 
 pub record ThreadRows : Type 0 where
   pub called : turns row_pool functions 20 (thread_begun 0 (4 ∷ []) kept_begun) ≡ Replies answers.Number 47 kept_after
+  -- while 1 runs, both others wait
+  pub called_within : turns row_pool functions 20 (thread_begun 7 [] kept_begun) ≡ Replies answers.Number 127 kept_after
   pub kept : turns row_pool functions 20 (thread_begun 2 [] kept_after) ≡ Replies answers.Full 7 kept_after
   pub not_kept : turns row_pool functions 20 (thread_begun 2 [] kept_begun) ≡ Replies answers.Full 0 kept_begun
   pub returned_to_nobody : turns row_pool functions 20 (thread_begun 3 [] kept_begun) ≡ Strays

@@ -1,7 +1,7 @@
 //! What a row is answered.
 
 use crate::accesses::accesses;
-use crate::announcers::announcer_row;
+use crate::announcers::{announcer_row, announcers_row};
 use crate::callers::callers;
 use crate::entries::{entry_row, setting_row};
 use crate::targets::{read, setting_for};
@@ -69,6 +69,9 @@ fn spelled_row(
         return Err(RowError::Wrong);
     };
     let bytes = spelled(alloc, named, spelling)?;
+    if kind == "announcers" {
+        return announcers_row(alloc, head, rest, &bytes, out);
+    }
     target_row(alloc, Row { kind, head, rest }, &bytes, out)
 }
 
@@ -86,7 +89,7 @@ pub(crate) fn answer(
         "entry" => entry_row(alloc, row, out),
         "setting" => setting_row(alloc, row, out),
         "announcer" => announcer_row(alloc, row, out),
-        "words" | "callers" | "signs" => spelled_row(alloc, named, kind, row, out),
+        "words" | "callers" | "signs" | "announcers" => spelled_row(alloc, named, kind, row, out),
         _ => Err(RowError::Wrong),
     }
 }

@@ -11,6 +11,7 @@
 //!   stand after each move: `first calls OP ARGUMENT`, `first steps COUNT`, and the same of `second`. At the end come the replies.
 //! - `signs CALLERS SLOTS FIRST LAST ROOM, MOVE, .. < TEXT`: the same callers, and of each step in place of its access whether it is a load,
 //!   a check or an exchange of the text, or another, and what it tells the source machine.
+//! - `announcers CALLERS SLOTS LAST ROOM, MOVE, .. < TEXT`: as `callers`, of callers who run the text as it is under epochs, from phase 1 on.
 //!
 //! A target owns much, and is dropped by a call of `drop`. That is one call to prove. A drop at the end of a scope would be proved part by
 //! part.
@@ -18,7 +19,9 @@
 
 mod accesses;
 mod announcers;
+mod announcing;
 mod answer;
+mod bare;
 mod callers;
 mod entries;
 mod steps;

@@ -51,13 +51,15 @@ pub(crate) fn entry_of(
     Ok(entry)
 }
 
-fn are_zero(words: &[u64]) -> bool
+/// Whether all words are 0.
+pub(crate) fn are_zero(words: &[u64]) -> bool
     ensures { result ≡ list_all (λ word. word == 0) words.now }
 {
     words.iter().all(|word| *word == 0)
 }
 
-fn past(args: &[u64; 4], count: usize) -> &[u64]
+/// The arguments past so many.
+pub(crate) fn past(args: &[u64; 4], count: usize) -> &[u64]
     ensures { result.now ≡ drop count args.now }
 {
     args.get(count..).unwrap_or(&[])

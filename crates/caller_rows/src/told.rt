@@ -7,7 +7,7 @@ use std::alloc::AllocError;
 use std::fmt::Write;
 
 /// What a caller's step accesses.
-fn add_access(out: &mut String, access: Access) -> Result<(), AllocError> {
+pub(crate) fn add_access(out: &mut String, access: Access) -> Result<(), AllocError> {
     match access {
         Access::Load { at } => write!(out, "Load {{ at: {at} }}, "),
         Access::Store { at, word } => write!(out, "Store {{ at: {at}, word: {word} }}, "),

@@ -16,7 +16,8 @@ fn argument(args: &[u64], number: usize) -> u64
     args.get(number).copied().unwrap_or(0)
 }
 
-fn padded(args: &[u64]) -> [u64; 4]
+/// The words of arguments: four, with 0 past the last.
+pub fn padded(args: &[u64]) -> [u64; 4]
     ensures { result ≡ padded args.now }
 {
     [
@@ -74,12 +75,7 @@ pub(crate) fn begun_by(begun: &[usize], caller: usize) -> usize
 }
 
 /// Counts the call that an event begins, unless it is another than the next of its caller's script.
-pub(crate) fn count(
-    ops: &[Op],
-    scripts: &[Script],
-    begun: &mut Listed<usize>,
-    event: &SourceEvent,
-) -> bool
+pub fn count(ops: &[Op], scripts: &[Script], begun: &mut Listed<usize>, event: &SourceEvent) -> bool
     ensures { Counts ops.now scripts.now begun.old event.now begun.new result }
 {
     match event {

@@ -8,5 +8,6 @@ mod judging;
 pub mod laws;
 mod verdict;
 
+pub use calls::{count, padded};
 pub use judging::judge_events;
 pub use verdict::Verdict;

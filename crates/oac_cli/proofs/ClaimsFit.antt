@@ -1,8 +1,6 @@
 -- The claims of up to four kinds can be printed, so the header of a text is read back.
-use Rattle.std.proofs.Common.{◌≡◌, ℕ, zero, suc, ◌≤◌, true, length, List, Option, Some, refl, ap, ◌∙◌, sym, arith}
+use Rattle.std.proofs.Common.{◌≡◌, ℕ, zero, suc, ◌≤◌, true, List, [], ◌∷◌, ◌++◌, length, Some, refl, ap, ◌∙◌, sym, arith}
 use Rattle.std.specs.List.{list_all}
-use Rattle.norm_lang.specs.LineWords.{is_name}
-use Rattle.norm_lang.specs.declared.text.Text.{Text}
 use Rattle.c_language.specs.declared.lines.Line.{Line}
 use Rattle.c_printer.specs.Names.{claim_names}
 use Rattle.c_printer.specs.Fitting.{is_fitting_code}
@@ -20,8 +18,13 @@ claims_fit (suc (suc (suc zero))) few = refl
 claims_fit (suc (suc (suc (suc zero)))) few = refl
 claims_fit (suc (suc (suc (suc (suc kinds))))) few = absurd (let f : ⊥ = omega (arith, few) in f)
 
+none_more : (claims : List (List Line)) → claims ++ [] ≡ claims
+none_more [] = refl
+none_more (code ∷ claims) = ap (λ (l : List (List Line)). code ∷ l) (none_more claims)
+
 pub emitted_back : EmittedReadsBack
 emitted_back name text is few =
     let claims = claims_of (length text.kinds) in
-    ap (λ (n : ℕ). header_said name (strides_of text) (length text.roots) n (header_text name (strides_of text) (length text.roots) claims)) (sym (counted_length (claim_of (length text.kinds)) 0 (length text.kinds)))
-    ∙ headers_back name (strides_of text) (length text.roots) claims is (claims_fit (length text.kinds) few)
+    ap (λ (n : ℕ). header_said name (strides_of text) text.roots text.nodes n [] (header_text name (strides_of text) text.roots text.nodes claims [])) (sym (counted_length (claim_of (length text.kinds)) 0 (length text.kinds)))
+    ∙ headers_back name (strides_of text) text.roots text.nodes claims [] is (claims_fit (length text.kinds) few) refl
+    ∙ ap Some (none_more claims)

@@ -3,3 +3,4 @@ pub mod FewKinds
 pub mod ClaimsFit
 pub mod Telling
 pub mod Completing
+pub mod Strides

@@ -61,6 +61,13 @@ pub fn emit(alloc: Global, name: &[u8], text: &Text) -> Result<ByteText, AllocEr
 {
     let strides = strides_of(alloc, text)?;
     let claims = claims_of(alloc, text.kinds.items().len() as u32)?;
-    let roots = text.roots.items().len() as u64;
-    header(alloc, name, &strides, roots, &claims)
+    header(
+        alloc,
+        name,
+        &strides,
+        text.roots.items(),
+        text.nodes.items(),
+        &claims,
+        &[],
+    )
 }

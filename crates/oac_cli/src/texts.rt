@@ -1,5 +1,8 @@
 //! What the program says of itself.
 
+/// The program's name, with which its messages begin.
+pub const PROGRAM: &[u8] = b"oac";
+
 /// What `--help` asks for.
 pub const HELP: &[u8] = b"oac NAME < DOCUMENT > NAME.h
 

@@ -6,7 +6,6 @@ use Rattle.norm_lang.specs.declared.text.Text.{Text}
 use Rattle.norm_check.specs.declared.refusal.Refusal.{Refusal}
 use Rattle.norm_check.specs.Refusals.{IsRefused}
 use Rattle.norm_parser.specs.FaultShown.{fault_shown}
-use Rattle.documents.specs.declared.document.Document.{Document}
 use Rattle.script_plans.specs.declared.fault.RunFault.{RunFault}
 use Rattle.script_plans.specs.declared.fault.RunFault.TheVariants as faults
 use Rattle.script_plans.specs.Plans.{IsFaultOf, IsRunnable}
@@ -26,11 +25,6 @@ use Rattle.oax_cli.specs.declared.verdict.Verdict.{Verdict}
 use Rattle.oax_cli.specs.declared.verdict.Verdict.TheVariants as verdicts
 use Rattle.oax_cli.specs.Requests.{request_of}
 use Rattle.oax_cli.specs.Readings.{Untouched, IsOfSource}
-
--- the text of a document that can be run, or why it can't
-abbrev pub IsReadied : Document → Result Text RunFault → Type 0
-IsReadied document (Ok text) = (text ≡ document.text) × IsRunnable document
-IsReadied document (Err fault) = IsFaultOf document fault
 
 -- what is found of events of a text, from the start of so many callers
 abbrev pub IsShown : Text → ℕ → List SourceEvent → Verdict → Type 0

@@ -1,7 +1,6 @@
 //! Messages for a person, on standard error.
 
 ghost use Rattle.std.specs.Prelude.{◌<◌, ◌≤◌, length};
-ghost use Rattle.oa_text.specs.Causes.{HasCause};
 ghost use Rattle.statuses.specs.declared.limits.TheConstants.{CERTIFICATE_LIMIT};
 
 use crate::ending::Ending;
@@ -9,12 +8,13 @@ use crate::paths::write_path;
 use crate::top::Outcome;
 use crate::verdict::Verdict;
 use message_lines::lines::{instruction_line, line_beginning};
-use messages::{RememberingSource, StoppedTurn, explain_read};
+use messages::RememberingSource;
 use norm_check::Normal;
 use norm_lang::list::Listed;
 use norm_lang::text::ByteText;
 use oa_text::{Failed, MemorySink, Piece, Sink, Source, write_all, write_pieces};
 use proper_judge::{Breach, Trace, trace_breach};
+use renamed_messages::explain_renamed;
 use source_machine::SourceEvent;
 use statuses::Status;
 use std::alloc::Global;
@@ -154,7 +154,7 @@ fn write_stop<K: Sink>(out: &mut K, line: Option<u32>, at: u64) -> Result<(), Fa
     write_place(out, line, at)?;
     write_all(
         out,
-        b"this event is not enabled: after those before it no run of the text makes it, and up to there the run is proper. If `oa judge make` wrote this certificate, the text is not proper.\n",
+        b"this event is not enabled: no run of the text can make it after the events above it. Those events are a proper run. If `oa judge make` wrote this certificate, the text is not proper.\n",
     )
 }
 
@@ -167,30 +167,14 @@ pub(crate) fn stop_message(alloc: Global, bytes: &[u8], at: u64) -> ByteText
     taken(alloc, &sink, wrote)
 }
 
-/// Writes a message of `oa` in the name of `oax`.
-fn write_renamed<K: Sink>(errors: &mut K, message: &[u8]) -> Result<(), Failed>
-    ensures cause { HasCause (K.faults errors.old) (K.faults errors.new) result }
-{
-    if message.starts_with(b"oa:") {
-        let (_, rest) = message.split_at(3);
-        write_pieces(errors, &[Piece::Bytes(b"oax:"), Piece::Bytes(rest)])
-    } else {
-        write_all(errors, message)
-    }
-}
-
-/// Writes what `oa` says on a status. If there is no memory for it, it is written as it is.
+/// Writes what `oa` says on a status, in the name of `oax`.
 fn explain_status<K: Sink, S: Source>(
     alloc: Global,
     errors: &mut K,
     input: &RememberingSource<S>,
     status: Status,
 ) -> Result<(), Failed> {
-    let mut sink = MemorySink::new(alloc, usize::MAX, Vec::new(alloc));
-    match explain_read(alloc, &mut sink, input, status, StoppedTurn::Nowhere) {
-        Ok(()) => write_renamed(errors, sink.bytes()),
-        Err(_) => explain_read(alloc, errors, input, status, StoppedTurn::Nowhere),
-    }
+    explain_renamed(alloc, errors, b"oax", input, status)
 }
 
 /// The message that a verdict has.

@@ -3,7 +3,7 @@
 ghost use Rattle.std.specs.Prelude.{◌≡◌, ◌<◌, ◌≤◌, length};
 ghost use Rattle.documents.specs.DocumentLimits.{IsWithinDocumentLimits};
 ghost use Rattle.statuses.specs.declared.limits.TheConstants.{CERTIFICATE_LIMIT};
-ghost use Rattle.oax_cli.specs.Judgements.{IsReadied, IsShownIf, IsCertificateJudged, IsFoundOfCertificate, IsOfCertificate, IsOfCertificateBytes};
+ghost use Rattle.oax_cli.specs.Judgements.{IsShownIf, IsCertificateJudged, IsFoundOfCertificate, IsOfCertificate, IsOfCertificateBytes};
 ghost use Rattle.oax_cli.specs.Readings.{IsOfSource};
 
 use crate::explaining::{breach_message, stop_message};
@@ -12,24 +12,13 @@ use crate::verdict::Verdict;
 use certificates::{Certificate, read_certificate};
 use documents::Document;
 use line_words::fault::ParseError;
-use norm_check::{Normal, Refusal, check};
+use norm_check::{Normal, Refusal};
 use oa_text::Source;
 use proper_judge::{SoFar, judge_run};
-use script_plans::{RunFault, plan_of};
+use script_plans::{RunFault, readied};
 use source_machine::SourceEvent;
 use statuses::limits::CERTIFICATE_LIMIT;
 use std::alloc::Global;
-
-/// The text of a document that can be run.
-fn readied(alloc: Global, document: &Document) -> Result<Normal, RunFault>
-    requires { IsWithinDocumentLimits document.now }
-    ensures { IsReadied document.now result }
-{
-    let plan = plan_of(alloc, document)?;
-    drop(plan);
-    let normal = check(alloc, document.text.copy(alloc)?)?;
-    Ok(normal)
-}
 
 /// What the events of a certificate, read of these bytes, show of its text.
 fn judge_events(

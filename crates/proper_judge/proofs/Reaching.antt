@@ -1,19 +1,19 @@
 -- The search of what names reach.
-use Rattle.std.proofs.Common.{ℕ, zero, suc, ◌+◌, ◌≤◌, ◌<◌, ◌≡◌, ◌≢◌, ◌==◌, ◌||◌, ◌⊎◌, ◌∙◌, ◌++◌, not, Bool, true, false, cond, List, [], ◌∷◌, length, length-append, reverse, filter, Option, Some, None, option_map, sym, ap, refl, subst, inl, inr, ⊎_elim, arith}
-use Rattle.std.specs.Prelude.{unwrap_or, slice_index_or}
-use Rattle.std.proofs.lemmas.Bool.{cases_eq, cases_Bool, or_cases, or_left, or_right, or_parts, or_from}
+use Rattle.std.proofs.Common.{ℕ, zero, suc, ◌+◌, ◌≤◌, ◌<◌, ◌≡◌, ◌≢◌, ◌==◌, ◌||◌, ◌⊎◌, ◌∙◌, ◌++◌, Bool, true, false, cond, List, [], ◌∷◌, length, length-append, take, get_or, Option, Some, None, sym, ap, refl, subst, inl, inr, ⊎_elim, arith}
+use Rattle.std.specs.Prelude.{unwrap_or}
+use Rattle.std.proofs.lemmas.Bool.{cases_Bool, or_cases, or_left, or_right}
 use Rattle.std.proofs.lemmas.Bool.Decides.{nat_tests, eqb_tells}
-use Rattle.std.proofs.lemmas.List.{reverse-append}
-use Rattle.norm_lang.specs.declared.registers.Reference.{Reference}
+use Rattle.std.proofs.lemmas.List.{take_more}
 use Rattle.source_machine.specs.declared.state.Value.{Value}
 use Rattle.source_machine.specs.declared.state.Value.TheVariants.{Number, Node}
 use Rattle.source_machine.specs.declared.state.NamedNode.{NamedNode}
 use Rattle.source_machine.specs.declared.state.Memory.{Memory}
 use Rattle.source_machine.specs.Memory.{fields_named, value_at}
-use Rattle.source_machine.specs.Proper.{has, field_of, PointsTo, Reaches, itself, onward}
-use Rattle.source_machine.proofs.Along.{along_fields}
+use Rattle.source_machine.specs.Proper.{has, PointsTo, Reaches, itself, onward}
 use Rattle.source_machine.proofs.Names.{has_push, has_last, has_old, has_new, untrue}
-use Rattle.proper_judge.specs.Reach.{ReachedFrom, Found, names_of, targets, without, fields_at, more_work}
+use Rattle.source_machine.proofs.Places.{same_test, other_test}
+use Rattle.proper_judge.specs.Marks.{marked}
+use Rattle.proper_judge.specs.Reach.{ReachedFrom, IsFine, Found, targets, without, fields_at, LeadsFrom, all_marked, more_work}
 
 -- ---- lists of names
 
@@ -23,13 +23,6 @@ has_both n (k ∷ ks) ms = ap (λ b. (k == n) || b) (has_both n ks ms) ∙ sym (
   more : (a b c : Bool) → (a || b) || c ≡ a || (b || c)
   more true b c = refl
   more false b c = refl
-
-pub has_without : (n m : ℕ) (ns : List ℕ) → n ≢ m → has n ns ≡ false → has n (without m ns) ≡ false
-has_without n m [] ne e = refl
-has_without n m (k ∷ ks) ne e = let p = or_parts (k == n) (has n ks) e in of (not (k == m)) p.0 (has_without n m ks ne p.1) where
-  of : (b : Bool) → (k == n) ≡ false → has n (without m ks) ≡ false → has n (cond b (k ∷ without m ks) (without m ks)) ≡ false
-  of true a r = or_from (k == n) (has n (without m ks)) a r
-  of false a r = r
 
 pub has_kept : (n m : ℕ) (ns : List ℕ) → n ≢ m → has n (without m ns) ≡ has n ns
 has_kept n m [] ne = refl
@@ -46,6 +39,17 @@ has_gone m (k ∷ ks) = ⊎_elim
     (λ (t : ((k == m) ≡ true) × (k ≡ m)). rw t.0 (has_gone m ks))
     (λ (t : ((k == m) ≡ false) × (k ≢ m)). rw t.0 (rw t.0 (has_gone m ks)))
     (eqb_tells k m)
+
+pub has_at : (ns : List ℕ) (i d : ℕ) → i < length ns → has (get_or ns i d) ns ≡ true
+has_at [] i d lt = absurd (omega (arith, lt))
+has_at (n ∷ ns) zero d lt = rw (same_test n) refl
+has_at (n ∷ ns) (suc i) d lt = or_right (n == get_or ns i d) (has (get_or ns i d) ns) (has_at ns i d (omega (arith, lt)))
+
+pub one_has : (n m : ℕ) → has n (m ∷ []) ≡ true → n ≡ m
+one_has n m e = ⊎_elim
+    (λ (t : ((m == n) ≡ true) × (m ≡ n)). sym t.1)
+    (λ (t : ((m == n) ≡ false) × (m ≢ n)). absurd (untrue false refl (sym (ap (λ b. b || false) t.0) ∙ e)))
+    (eqb_tells m n)
 
 -- ---- fields
 
@@ -77,151 +81,191 @@ points_in memory name other p = at_target (fields_at memory name) p.0 p.1 other 
 pub points_so : (memory : Memory) (name other : ℕ) → has other (targets (fields_at memory name)) ≡ true → PointsTo memory name other
 points_so memory name other e = target_at (fields_at memory name) other e
 
--- ---- names in use
+-- a field of the name at a place leads on
+pub leads_from : (memory : Memory) (names : List ℕ) (i d name : ℕ) → i < length names → (get_or names i d ≡ name → ⊥)
+    → has name (targets (fields_at memory (get_or names i d))) ≡ true → LeadsFrom memory names name
+leads_from memory names i d name lt other e =
+    (get_or names i d, has_kept (get_or names i d) name names other ∙ has_at names i d lt, points_so memory (get_or names i d) name e)
 
-lost_more : (name : ℕ) (nodes : List NamedNode) (node : NamedNode) → fields_named name nodes ≡ None → (node.name == name) ≡ false → fields_named name (nodes ++ node ∷ []) ≡ None
-lost_more name [] node e ne = rw ne refl
-lost_more name (k ∷ ks) node e ne = of (k.name == name) e (λ h. lost_more name ks node h ne) where
-  of : (b : Bool) → cond b (Some k.values) (fields_named name ks) ≡ None → (fields_named name ks ≡ None → fields_named name (ks ++ node ∷ []) ≡ None)
-      → cond b (Some k.values) (fields_named name (ks ++ node ∷ [])) ≡ None
-  of true h more = absurd (let z : Some k.values ≡ None = h in cc)
-  of false h more = more h
+-- one more name is marked
+pub mark_more : (names : List ℕ) (i d : ℕ) (first before after : ℕ → Bool) → i < length names → ((n : ℕ) → before n ≡ all_marked first (take i names) n)
+    → ((n : ℕ) → after n ≡ marked before (get_or names i d) n) → (n : ℕ) → after n ≡ all_marked first (take (i + 1) names) n
+mark_more names i d first before after lt so_far goes n =
+    goes n ∙ (ap (λ b. (get_or names i d == n) || b) (so_far n) ∙ (turned (get_or names i d == n) (has n (take i names)) (first n)
+    ∙ ap (λ b. b || first n) (sym (ap (has n) (take_more names i d lt) ∙ has_push n (take i names) (get_or names i d))))) where
+      turned : (a b c : Bool) → a || (b || c) ≡ (b || a) || c
+      turned true true c = refl
+      turned true false c = refl
+      turned false true c = refl
+      turned false false c = refl
 
-unnamed : (name : ℕ) (rows : List NamedNode) → has name (names_of rows) ≡ false → fields_named name (reverse rows) ≡ None
-unnamed name [] e = refl
-unnamed name (node ∷ rows) e =
-    let p = or_parts (node.name == name) (has name (names_of rows)) e in
-    ap (fields_named name) (reverse-append (node ∷ []) rows) ∙ lost_more name (reverse rows) node (unnamed name rows p.1) p.0
+-- ---- paths
 
--- what isn't in use points nowhere
-nowhere : (memory : Memory) (name other : ℕ) → fields_named name memory.nodes ≡ None → PointsTo memory name other → ⊥
-nowhere memory name other lost p =
-    let e : has other (targets (unwrap_or (fields_named name memory.nodes) [])) ≡ true = points_in memory name other p in
-    untrue false refl (sym (ap (λ o. has other (targets (unwrap_or o []))) lost) ∙ e)
-
--- ---- the search
-
--- a name was visited and isn't bad, or is to be visited
-pub Settled : List ℕ → List ℕ → List ℕ → ℕ → Type 0
-Settled bad rest work name = ((has name bad ≡ false) × (has name rest ≡ false)) ⊎ (has name work ≡ true)
-
-pub record Search (memory : Memory) (from bad rest work : List ℕ) : Type 0 where
-  pub sound : (name : ℕ) → has name work ≡ true → ReachedFrom memory from name
-  pub closed : (name other : ℕ) → has name rest ≡ false → PointsTo memory name other → Settled bad rest work other
-  pub begun : (name : ℕ) → has name from ≡ true → Settled bad rest work name
-
-pub search_starts : (memory : Memory) (rows : List NamedNode) (from bad : List ℕ) → memory.nodes ≡ reverse rows → Search memory from bad (names_of rows) from
-unfolding Settled
-search_starts memory rows from bad same = record {
-  sound = λ name e. (name, e, itself name);
-  closed = λ name other out p. absurd (nowhere memory name other (ap (fields_named name) same ∙ unnamed name rows out) p);
-  begun = λ name e. inr e;
-}
-
-farther : (memory : Memory) (a b c : ℕ) → Reaches memory a b → PointsTo memory b c → Reaches memory a c
+pub farther : (memory : Memory) (a b c : ℕ) → Reaches memory a b → PointsTo memory b c → Reaches memory a c
 farther memory a b c (itself n) p = onward n c c p (itself c)
 farther memory a b c (onward n next m q r) p = onward n next c q (farther memory next m c r p)
 
-pub search_found : (memory : Memory) (from bad rest work : List ℕ) (name : ℕ) → Search memory from bad rest (work ++ name ∷ []) → has name bad ≡ true → Found memory from bad (Some name)
-search_found memory from bad rest work name s e = (s.sound name (has_new name work), e)
+-- a name to which a root refers, and one to which another name leads
+pub known_target : (memory : Memory) (values : List Value) (name : ℕ) (bad : ℕ → Bool) → has name (targets values) ≡ true → IsFine memory (targets values) bad → IsFine memory (name ∷ []) bad
+known_target memory values name bad at fine start z e goes = fine name z at (subst (λ n. Reaches memory n z) (one_has start name e) goes)
 
-pub search_ends : (memory : Memory) (from bad rest : List ℕ) → Search memory from bad rest [] → Found memory from bad None
-unfolding Settled
-search_ends memory from bad rest s start name e reaches = (along_fields memory P goes start name reaches (here start (s.begun start e))).0 where
-  P : ℕ → Type 0
-  P n = (has n bad ≡ false) × (has n rest ≡ false)
+pub known_led : (memory : Memory) (names : List ℕ) (name : ℕ) (bad : ℕ → Bool) → LeadsFrom memory names name → IsFine memory (without name names) bad → IsFine memory (name ∷ []) bad
+known_led memory names name bad led fine start z e goes = fine led.0 z led.1 (onward led.0 name z led.2 (subst (λ n. Reaches memory n z) (one_has start name e) goes))
 
-  here : (n : ℕ) → ((has n bad ≡ false) × (has n rest ≡ false)) ⊎ (has n [] ≡ true) → P n
-  here n (inl p) = p
-  here n (inr e) = absurd (untrue false refl e)
+-- ---- the search
 
-  goes : (n next : ℕ) → PointsTo memory n next → P n → P next
-  goes n next p k = here next (s.closed n next k.1 p)
+-- a name was passed: it is known, or it isn't bad
+abbrev pub Passed : List ℕ → (ℕ → Bool) → (ℕ → Bool) → ℕ → Type 0
+Passed known bad marks name = (marks name ≡ true) × ((has name known ≡ true) ⊎ (bad name ≡ false))
 
-more_of : Memory → ℕ → Bool → List ℕ → List ℕ
-more_of memory name true work = work ++ targets (fields_at memory name)
-more_of memory name false work = work
+-- or it is to be visited
+abbrev pub Settled : List ℕ → (ℕ → Bool) → (ℕ → Bool) → List ℕ → ℕ → Type 0
+Settled known bad marks work name = Passed known bad marks name ⊎ (has name work ≡ true)
 
-module _ (memory : Memory) (from bad rest work : List ℕ) (name : ℕ) (s : Search memory from bad rest (work ++ name ∷ [])) (good : has name bad ≡ false) where
-  after : List ℕ
-  after = more_work memory name rest work
+pub record Search (memory : Memory) (from known : List ℕ) (bad marks : ℕ → Bool) (work : List ℕ) : Type 0 where
+  pub sound : (name : ℕ) → has name work ≡ true → ReachedFrom memory from name
+  pub closed : (name other : ℕ) → marks name ≡ true → has name known ≡ false → PointsTo memory name other → Settled known bad marks work other
+  pub begun : (name : ℕ) → has name from ≡ true → Settled known bad marks work name
 
-  kept : (n : ℕ) (b : Bool) → has name rest ≡ b → has n work ≡ true → has n (more_work memory name rest work) ≡ true
-  kept n true h e = rw h (has_both n work (targets (fields_at memory name)) ∙ or_left (has n work) (has n (targets (fields_at memory name))) e)
-  kept n false h e = rw h e
+pub search_starts : (memory : Memory) (from known : List ℕ) (bad none marks : ℕ → Bool) → ((n : ℕ) → none n ≡ false) → ((n : ℕ) → marks n ≡ all_marked none known n)
+    → Search memory from known bad marks from
+search_starts memory from known bad none marks empty all = record {
+  sound = λ name e. (name, e, itself name);
+  closed = λ name other m out p. absurd (untrue (marks name) (all name ∙ (ap (λ b. b || none name) out ∙ empty name)) m);
+  begun = λ name e. inr e;
+}
 
-  -- what was settled before
-  still : (n : ℕ) → Settled bad rest (work ++ name ∷ []) n → Settled bad (without name rest) (more_work memory name rest work) n
-  unfolding Settled
-  still n (inl p) = ⊎_elim
-      (λ (t : n ≡ name). inl (p.0, subst (λ m. has m (without name rest) ≡ false) (sym t) (has_gone name rest)))
-      (λ (ne : n ≢ name). inl (p.0, has_without n name rest ne p.1))
-      (cases_eq n name)
+pub search_found : (memory : Memory) (from known : List ℕ) (bad marks : ℕ → Bool) (work : List ℕ) (name : ℕ) → Search memory from known bad marks (work ++ name ∷ []) → bad name ≡ true
+    → Found memory from known bad (Some name)
+search_found memory from known bad marks work name s e = (s.sound name (has_new name work), e)
+
+pub search_ends : (memory : Memory) (from known : List ℕ) (bad marks : ℕ → Bool) → Search memory from known bad marks [] → Found memory from known bad None
+search_ends memory from known bad marks s fine start name e reaches = passed start name reaches (done start (s.begun start e)) where
+  done : (n : ℕ) → Settled known bad marks [] n → Passed known bad marks n
+  done n (inl p) = p
+  done n (inr e) = absurd (untrue false refl e)
+
+  passed : (n z : ℕ) → Reaches memory n z → Passed known bad marks n → bad z ≡ false
+  passed n z (itself m) p = ⊎_elim (λ (k : has n known ≡ true). fine n n k (itself n)) (λ (good : bad n ≡ false). good) p.1
+  passed n z (onward m next other points rest) p = ⊎_elim
+      (λ (k : has n known ≡ true). fine n z k (onward n next z points rest))
+      (λ (k : has n known ≡ false). passed next z rest (done next (s.closed n next p.0 k points)))
+      (cases_Bool (has n known))
+
+module _ (memory : Memory) (from known : List ℕ) (bad marks marks' : ℕ → Bool) (work work' : List ℕ) (name : ℕ)
+    (s : Search memory from known bad marks (work ++ name ∷ [])) (good : bad name ≡ false)
+    (marks_are : (n : ℕ) → marks' n ≡ marked marks name n) (work_is : work' ≡ more_work memory name (marks name) work) where
+  -- what was to be visited still is, except for the name
+  kept : (n : ℕ) (b : Bool) → has n work ≡ true → has n (more_work memory name b work) ≡ true
+  kept n true e = e
+  kept n false e = has_both n work (targets (fields_at memory name)) ∙ or_left (has n work) (has n (targets (fields_at memory name))) e
+
+  in_work : (n : ℕ) → has n (more_work memory name (marks name) work) ≡ true → has n work' ≡ true
+  in_work n e = ap (has n) work_is ∙ e
+
+  marked_on : (n : ℕ) → marks n ≡ true → marks' n ≡ true
+  marked_on n e = marks_are n ∙ or_right (name == n) (marks n) e
+
+  marked_now : marks' name ≡ true
+  marked_now = marks_are name ∙ or_left (name == name) (marks name) (same_test name)
+
+  still : (n : ℕ) → Settled known bad marks (work ++ name ∷ []) n → Settled known bad marks' work' n
+  still n (inl p) = inl (marked_on n p.0, p.1)
   still n (inr e) = ⊎_elim
-      (λ (old : has n work ≡ true). inr (kept n (has name rest) refl old))
-      (λ (t : n ≡ name). inl (subst (λ m. has m bad ≡ false) (sym t) good, subst (λ m. has m (without name rest) ≡ false) (sym t) (has_gone name rest)))
+      (λ (old : has n work ≡ true). inr (in_work n (kept n (marks name) old)))
+      (λ (t : n ≡ name). inl (subst (λ m. marks' m ≡ true) (sym t) marked_now, inr (subst (λ m. bad m ≡ false) (sym t) good)))
       (has_last n name work e)
 
-  new_target : (other : ℕ) → has name rest ≡ true → PointsTo memory name other → has other (more_work memory name rest work) ≡ true
-  new_target other h p = rw h (has_both other work (targets (fields_at memory name)) ∙ or_right (has other work) (has other (targets (fields_at memory name))) (points_in memory name other p))
+  new_target : (other : ℕ) (b : Bool) → b ≡ false → PointsTo memory name other → has other (more_work memory name b work) ≡ true
+  new_target other true e p = absurd (let z : true ≡ false = e in cc)
+  new_target other false e p = has_both other work (targets (fields_at memory name)) ∙ or_right (has other work) (has other (targets (fields_at memory name))) (points_in memory name other p)
 
-  closed_on : (n other : ℕ) → has n (without name rest) ≡ false → PointsTo memory n other → Settled bad (without name rest) (more_work memory name rest work) other
-  unfolding Settled
-  closed_on n other out p = ⊎_elim
-      (λ (t : n ≡ name). of (has name rest) refl (subst (λ m. PointsTo memory m other) t p))
-      (λ (ne : n ≢ name). still other (s.closed n other (sym (has_kept n name rest ne) ∙ out) p))
-      (cases_eq n name) where
-        of : (b : Bool) → has name rest ≡ b → PointsTo memory name other → Settled bad (without name rest) (more_work memory name rest work) other
-        of true h q = inr (new_target other h q)
-        of false h q = still other (s.closed name other h q)
+  closed_on : (n other : ℕ) → marks' n ≡ true → has n known ≡ false → PointsTo memory n other → Settled known bad marks' work' other
+  closed_on n other m out p = ⊎_elim
+      (λ (old : marks n ≡ true). still other (s.closed n other old out p))
+      (λ (new : marks n ≡ false). let t : name ≡ n = is_name n m new in
+      inr (in_work other (new_target other (marks name) (ap marks t ∙ new) (subst (λ k. PointsTo memory k other) (sym t) p))))
+      (cases_Bool (marks n)) where
+        is_name : (k : ℕ) → marks' k ≡ true → marks k ≡ false → name ≡ k
+        is_name k m new = ⊎_elim
+            (λ (t : ((name == k) ≡ true) × (name ≡ k)). t.1)
+            (λ (t : ((name == k) ≡ false) × (name ≢ k)). absurd (untrue (marks' k) (marks_are k ∙ (ap (λ b. b || marks k) t.0 ∙ new)) m))
+            (eqb_tells name k)
 
-  sound_on : (n : ℕ) (b : Bool) → has name rest ≡ b → has n (cond b (work ++ targets (fields_at memory name)) work) ≡ true → ReachedFrom memory from n
-  sound_on n true h e = ⊎_elim
+  sound_on : (n : ℕ) (b : Bool) → has n (more_work memory name b work) ≡ true → ReachedFrom memory from n
+  sound_on n true e = s.sound n (has_old n name work e)
+  sound_on n false e = ⊎_elim
       (λ (old : has n work ≡ true). s.sound n (has_old n name work old))
       (λ (new : has n (targets (fields_at memory name)) ≡ true).
       let k = s.sound name (has_new name work) in (k.0, k.1, farther memory k.0 name n k.2 (points_so memory name n new)))
       (or_cases (has n work) (has n (targets (fields_at memory name))) (sym (has_both n work (targets (fields_at memory name))) ∙ e))
-  sound_on n false h e = s.sound n (has_old n name work e)
 
-  pub search_goes : Search memory from bad (without name rest) (more_work memory name rest work)
+  pub search_goes : Search memory from known bad marks' work'
   search_goes = record {
-    sound = λ n e. sound_on n (has name rest) refl e;
+    sound = λ n e. sound_on n (marks name) (sym (ap (has n) work_is) ∙ e);
     closed = closed_on;
     begun = λ n e. still n (s.begun n e);
   }
 
 -- ---- that it ends
 
-abbrev pub weight : Memory → List ℕ → ℕ
-weight memory [] = 0
-weight memory (name ∷ names) = suc (length (targets (fields_at memory name)) + weight memory names)
+-- what may still be added to the work: the references of nodes that aren't marked
+abbrev pub weight_of : Memory → Bool → ℕ → ℕ
+weight_of memory true name = 0
+weight_of memory false name = suc (length (targets (fields_at memory name)))
 
-weight_less : (memory : Memory) (m : ℕ) (ns : List ℕ) → weight memory (without m ns) ≤ weight memory ns
-weight_less memory m [] = omega arith
-weight_less memory m (k ∷ ks) = of (not (k == m)) (weight_less memory m ks) where
-  of : (b : Bool) → weight memory (without m ks) ≤ weight memory ks → weight memory (cond b (k ∷ without m ks) (without m ks)) ≤ suc (length (targets (fields_at memory k)) + weight memory ks)
-  of true e = omega (arith, e)
-  of false e = omega (arith, e)
+abbrev pub weight : Memory → (ℕ → Bool) → List NamedNode → ℕ
+weight memory marks [] = 0
+weight memory marks (node ∷ nodes) = weight_of memory (marks node.name) node.name + weight memory marks nodes
 
-weight_gone : (memory : Memory) (m : ℕ) (ns : List ℕ) → has m ns ≡ true → suc (weight memory (without m ns) + length (targets (fields_at memory m))) ≤ weight memory ns
-weight_gone memory m [] e = absurd (untrue false refl e)
-weight_gone memory m (k ∷ ks) e = ⊎_elim
-    (λ (t : ((k == m) ≡ true) × (k ≡ m)).
-    let less : weight memory (without m ks) ≤ weight memory ks = weight_less memory m ks in
-    let same : length (targets (fields_at memory k)) ≡ length (targets (fields_at memory m)) = ap (λ n. length (targets (fields_at memory n))) t.1 in
-    rw t.0 (omega (arith, less, same)))
-    (λ (t : ((k == m) ≡ false) × (k ≢ m)).
-    let less : suc (weight memory (without m ks) + length (targets (fields_at memory m))) ≤ weight memory ks = weight_gone memory m ks (sym (ap (λ b. b || has m ks) t.0) ∙ e) in
-    rw t.0 (omega (arith, less)))
-    (eqb_tells k m)
+weight_less : (memory : Memory) (marks marks' : ℕ → Bool) (name : ℕ) (nodes : List NamedNode) → ((n : ℕ) → marks' n ≡ marked marks name n) → weight memory marks' nodes ≤ weight memory marks nodes
+weight_less memory marks marks' name [] are = omega arith
+weight_less memory marks marks' name (node ∷ nodes) are =
+    let rest = weight_less memory marks marks' name nodes are in
+    let here : weight_of memory (marks' node.name) node.name ≤ weight_of memory (marks node.name) node.name =
+    subst (λ b. weight_of memory b node.name ≤ weight_of memory (marks node.name) node.name) (sym (are node.name)) (of (name == node.name) (marks node.name)) in
+    omega (arith, rest, here) where
+      of : (a b : Bool) → weight_of memory (a || b) node.name ≤ weight_of memory b node.name
+      of true true = omega arith
+      of true false = omega arith
+      of false b = omega arith
 
-pub weight_falls : (memory : Memory) (rest work : List ℕ) (name : ℕ) → length (more_work memory name rest work) + weight memory (without name rest) < length (work ++ name ∷ []) + weight memory rest
-weight_falls memory rest work name = of (has name rest) refl where
-  of : (b : Bool) → has name rest ≡ b → length (cond b (work ++ targets (fields_at memory name)) work) + weight memory (without name rest) < length (work ++ name ∷ []) + weight memory rest
-  of true h =
-      let l = length-append work (targets (fields_at memory name)) in
-      let k = length-append work (name ∷ []) in
-      let w = weight_gone memory name rest h in omega (arith, l, k, w)
-  of false h =
-      let k = length-append work (name ∷ []) in
-      let w = weight_less memory name rest in omega (arith, k, w)
+weight_gone : (memory : Memory) (marks marks' : ℕ → Bool) (name : ℕ) (nodes : List NamedNode) (values : List Value) → ((n : ℕ) → marks' n ≡ marked marks name n) → marks name ≡ false
+    → fields_named name nodes ≡ Some values → suc (weight memory marks' nodes + length (targets (fields_at memory name))) ≤ weight memory marks nodes
+weight_gone memory marks marks' name [] values are new e = absurd (let z : None ≡ Some values = e in cc)
+weight_gone memory marks marks' name (node ∷ nodes) values are new e = ⊎_elim
+    (λ (t : ((node.name == name) ≡ true) × (node.name ≡ name)).
+    let rest = weight_less memory marks marks' name nodes are in
+    let was : weight_of memory (marks node.name) node.name ≡ suc (length (targets (fields_at memory name))) =
+    ap (λ n. weight_of memory (marks n) n) t.1 ∙ ap (λ b. weight_of memory b name) new in
+    let now : weight_of memory (marks' node.name) node.name ≡ 0 =
+    ap (λ n. weight_of memory (marks' n) n) t.1 ∙ ap (λ b. weight_of memory b name) (are name ∙ or_left (name == name) (marks name) (same_test name)) in
+    omega (arith, rest, was, now))
+    (λ (t : ((node.name == name) ≡ false) × (node.name ≢ name)).
+    let rest = weight_gone memory marks marks' name nodes values are new (sym (ap (λ b. cond b (Some node.values) (fields_named name nodes)) t.0) ∙ e) in
+    let away : (name == node.name) ≡ false = other_test name node.name (λ h. t.1 (sym h)) in
+    let here : weight_of memory (marks' node.name) node.name ≤ weight_of memory (marks node.name) node.name =
+    subst (λ b. weight_of memory b node.name ≤ weight_of memory (marks node.name) node.name) (sym (are node.name ∙ ap (λ b. b || marks node.name) away)) (omega arith) in
+    omega (arith, rest, here))
+    (eqb_tells node.name name)
+
+pub weight_falls : (memory : Memory) (marks marks' : ℕ → Bool) (work work' : List ℕ) (name : ℕ) → ((n : ℕ) → marks' n ≡ marked marks name n)
+    → work' ≡ more_work memory name (marks name) work → length work' + weight memory marks' memory.nodes < length (work ++ name ∷ []) + weight memory marks memory.nodes
+weight_falls memory marks marks' work work' name are is =
+    subst (λ w. length w + weight memory marks' memory.nodes < length (work ++ name ∷ []) + weight memory marks memory.nodes) (sym is) (of (marks name) refl) where
+      by : marks name ≡ false → (o : Option (List Value)) → fields_named name memory.nodes ≡ o
+          → length (work ++ targets (fields_at memory name)) + weight memory marks' memory.nodes < length (work ++ name ∷ []) + weight memory marks memory.nodes
+      by new None e =
+          let l : length (work ++ targets (fields_at memory name)) ≡ length work = ap (λ o. length (work ++ targets (unwrap_or o []))) e ∙ length-append work [] ∙ (let z : length work + 0 ≡ length work = omega arith in z) in
+          let k = length-append work (name ∷ []) in
+          let w = weight_less memory marks marks' name memory.nodes are in omega (arith, l, k, w)
+      by new (Some values) e =
+          let l = length-append work (targets (fields_at memory name)) in
+          let k = length-append work (name ∷ []) in
+          let w = weight_gone memory marks marks' name memory.nodes values are new e in omega (arith, l, k, w)
+
+      of : (b : Bool) → marks name ≡ b → length (more_work memory name b work) + weight memory marks' memory.nodes < length (work ++ name ∷ []) + weight memory marks memory.nodes
+      of true old =
+          let k = length-append work (name ∷ []) in
+          let w = weight_less memory marks marks' name memory.nodes are in omega (arith, k, w)
+      of false new = by new (fields_named name memory.nodes) refl

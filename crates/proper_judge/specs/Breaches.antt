@@ -1,5 +1,5 @@
--- What a state breaks, told from lists that hold its method runs.
-use Rattle.std.specs.Prelude.{◌≡◌, ℕ, Bool, true, false, not, ◌&&◌, List, [], ◌∷◌, Option, Some, None, slice_get}
+-- What a state breaks, told from what is kept beside it.
+use Rattle.std.specs.Prelude.{◌≡◌, ℕ, Bool, true, false, List, [], ◌∷◌, length, Option, Some, None, slice_get}
 use Rattle.norm_lang.specs.declared.registers.Reference.{Reference}
 use Rattle.source_machine.specs.declared.state.Value.TheVariants.{Node}
 use Rattle.source_machine.specs.declared.state.Memory.{Memory}
@@ -11,28 +11,66 @@ use Rattle.source_machine.specs.Proper.{has, IsOnce, Reaches, runs_method, IsPro
 use Rattle.proper_judge.specs.declared.runs.KeptRun.{KeptRun}
 use Rattle.proper_judge.specs.declared.breach.Breach.{Breach}
 use Rattle.proper_judge.specs.declared.breach.Breach.TheVariants.{Twice, Root, Got}
-use Rattle.proper_judge.specs.Reach.{ReachedFrom, Found, targets}
-use Rattle.proper_judge.specs.Runs.{HoldsRuns}
+use Rattle.proper_judge.specs.declared.breach.Doubts.{Doubts}
+use Rattle.proper_judge.specs.Numbers.{is_among}
+use Rattle.proper_judge.specs.Reach.{ReachedFrom, IsFine, Found, targets, without}
 
-abbrev pub is_once : List ℕ → Bool
-is_once [] = true
-is_once (name ∷ names) = not (has name names) && is_once names
+-- what is found from the roots, if they are searched
+abbrev pub RootsTold : Bool → Memory → (ℕ → Bool) → Option ℕ → Type 0
+RootsTold false memory bad found = found ≡ None
+RootsTold true memory bad found = Found memory (targets memory.roots) [] bad found
 
 -- what is found of a caller's method run
-abbrev pub FoundIf : Bool → Memory → Option KeptRun → Option ℕ → Type 0
-FoundIf false memory run found = found ≡ None
-FoundIf true memory None found = found ≡ None
-FoundIf true memory (Some run) found = Found memory run.got run.old found
+abbrev pub FoundIf : Bool → (ℕ → ℕ) → Memory → Option KeptRun → Option ℕ → Type 0
+FoundIf false numbers memory run found = found ≡ None
+FoundIf true numbers memory None found = found ≡ None
+FoundIf true numbers memory (Some run) found = Found memory run.got [] (is_among numbers run.before) found
 
-abbrev pub FoundOf : Memory → SourceCaller → Option KeptRun → Option ℕ → Type 0
-FoundOf memory caller run found = FoundIf (runs_method (Some caller)) memory run found
+abbrev pub FoundOf : (ℕ → ℕ) → Memory → Option SourceCaller → Option KeptRun → Option ℕ → Type 0
+FoundOf numbers memory caller run found = FoundIf (runs_method caller) numbers memory run found
 
 -- what is found of the method runs of all callers
-abbrev pub ShowsGot : SourceMachine → List KeptRun → Option Breach → Type 0
-ShowsGot state kept None = (c : ℕ) (caller : SourceCaller) → slice_get state.callers c ≡ Some caller → FoundOf state.memory caller (slice_get kept c) None
-ShowsGot state kept (Some Twice) = ⊥
-ShowsGot state kept (Some (Root name)) = ⊥
-ShowsGot state kept (Some (Got c name)) = (caller : SourceCaller) × (slice_get state.callers c ≡ Some caller) × FoundOf state.memory caller (slice_get kept c) (Some name)
+abbrev pub ShowsGot : (ℕ → ℕ) → SourceMachine → List KeptRun → Option Breach → Type 0
+ShowsGot numbers state kept None = (c : ℕ) (caller : SourceCaller) → slice_get state.callers c ≡ Some caller → FoundOf numbers state.memory (Some caller) (slice_get kept c) None
+ShowsGot numbers state kept (Some Twice) = ⊥
+ShowsGot numbers state kept (Some (Root name)) = ⊥
+ShowsGot numbers state kept (Some (Got c name)) =
+    (caller : SourceCaller) × (slice_get state.callers c ≡ Some caller) × FoundOf numbers state.memory (Some caller) (slice_get kept c) (Some name)
+
+-- what is found of a name that a method run has got now: nothing that it leads to is bad, if nothing is to which the roots or the run's other names
+-- lead
+abbrev pub AddedTold : Memory → KeptRun → (ℕ → Bool) → ℕ → Option ℕ → Type 0
+AddedTold memory run bad name None = IsFine memory (targets memory.roots) bad → IsFine memory (without name run.got) bad → IsFine memory (name ∷ []) bad
+AddedTold memory run bad name (Some other) = ReachedFrom memory (name ∷ []) other × (bad other ≡ true)
+
+abbrev pub MovedIf : Bool → (ℕ → ℕ) → Memory → KeptRun → ℕ → Option ℕ → Type 0
+MovedIf false numbers memory run name found = found ≡ None
+MovedIf true numbers memory run name found = AddedTold memory run (is_among numbers run.before) name found
+
+-- the same of the caller that moved, if it has got a name
+abbrev pub MovedTold : (ℕ → ℕ) → Memory → Option SourceCaller → Option KeptRun → Option ℕ → Option ℕ → Type 0
+MovedTold numbers memory caller run None found = found ≡ None
+MovedTold numbers memory caller None (Some name) found = found ≡ None
+MovedTold numbers memory caller (Some run) (Some name) found = MovedIf (runs_method caller) numbers memory run name found
+
+abbrev pub RunsTold : Bool → (ℕ → ℕ) → SourceMachine → List KeptRun → ℕ → Option ℕ → Option Breach → Type 0
+RunsTold true numbers state kept c added found = ShowsGot numbers state kept found
+RunsTold false numbers state kept c added None = MovedTold numbers state.memory (slice_get state.callers c) (slice_get kept c) added None
+RunsTold false numbers state kept c added (Some Twice) = ⊥
+RunsTold false numbers state kept c added (Some (Root name)) = ⊥
+RunsTold false numbers state kept c added (Some (Got d name)) = (d ≡ c) × MovedTold numbers state.memory (slice_get state.callers c) (slice_get kept c) added (Some name)
+
+-- what is found of a state: the roots are looked at only if no node was retired twice, and the method runs only if no root leads to a retired node
+abbrev pub RestTold : Doubts → (ℕ → ℕ) → SourceMachine → List KeptRun → ℕ → Option ℕ → Option Breach → Type 0
+RestTold doubts numbers state kept c added found =
+    (doubts.twice ≡ false) × RootsTold doubts.roots state.memory (is_among numbers (length state.memory.retired)) None × RunsTold doubts.runs numbers state kept c added found
+
+abbrev pub IsTold : Doubts → (ℕ → ℕ) → SourceMachine → List KeptRun → ℕ → Option ℕ → Option Breach → Type 0
+IsTold doubts numbers state kept c added None = RestTold doubts numbers state kept c added None
+IsTold doubts numbers state kept c added (Some Twice) = doubts.twice ≡ true
+IsTold doubts numbers state kept c added (Some (Root name)) =
+    (doubts.twice ≡ false) × RootsTold doubts.roots state.memory (is_among numbers (length state.memory.retired)) (Some name)
+IsTold doubts numbers state kept c added (Some (Got d name)) = RestTold doubts numbers state kept c added (Some (Got d name))
 
 -- a root leads to a retired name
 pub record IsRootBreach (state : SourceMachine) (name : ℕ) : Type 0 where
@@ -68,7 +106,3 @@ number_of (Got c name) = 3
 abbrev pub Shown : SourceMachine → (ℕ → MethodRun) → Option Breach → Type 0
 Shown state runs None = IsProperState state runs
 Shown state runs (Some breach) = IsBreach state runs breach
-
--- the state is proper, or the breach is one, whatever method runs the lists hold
-abbrev pub Shows : SourceMachine → List KeptRun → Option Breach → Type 0
-Shows state kept found = (runs : ℕ → MethodRun) → HoldsRuns kept runs → Shown state runs found

@@ -1,5 +1,5 @@
 -- What the events of a run show of their text.
-use Rattle.std.specs.Prelude.{◌≡◌, ℕ, ◌+◌, ◌≤◌, List, take, length}
+use Rattle.std.specs.Prelude.{◌≡◌, ℕ, ◌+◌, ◌≤◌, List, [], take, length, replicate}
 use Rattle.norm_lang.specs.declared.text.Text.{Text}
 use Rattle.source_machine.specs.declared.event.SourceEvent.{SourceEvent}
 use Rattle.source_machine.specs.declared.state.SourceMachine.{SourceMachine}
@@ -8,9 +8,16 @@ use Rattle.source_machine.specs.Calls.{IsStopped}
 use Rattle.source_machine.specs.MethodRuns.{method_runs}
 use Rattle.source_machine.specs.Proper.{IsProperFor, IsProperState}
 use Rattle.proper_judge.specs.declared.breach.Breach.{Breach}
+use Rattle.proper_judge.specs.declared.event.Kept.{Kept}
+use Rattle.proper_judge.specs.Numbers.{numbering}
 use Rattle.proper_judge.specs.Breaches.{IsBreach}
 use Rattle.proper_judge.specs.declared.judging.SoFar.{SoFar}
 use Rattle.proper_judge.specs.declared.judging.SoFar.TheVariants.{Proper, Improper, NotEnabled}
+
+-- what is kept at the start: no caller has got a name, and no name is retired
+pub record IsFirstKept (callers : ℕ) (kept : Kept) : Type 0 where
+  pub runs : kept.runs.items ≡ replicate callers (record { got = []; before = 0 })
+  pub retirements : (name : ℕ) → numbering kept.retirements name ≡ 0
 
 -- each state is proper to which so many of the events, or fewer, lead
 abbrev pub IsProperUpTo : Text → ℕ → List SourceEvent → ℕ → Type 0

@@ -1,12 +1,13 @@
 //! Judging the events of a run.
 
-ghost use Rattle.std.specs.Prelude.{◌≡◌, ◌≤◌, [], length, IfOk};
-ghost use Rattle.source_machine.specs.MethodRuns.{MethodRun};
-ghost use Rattle.proper_judge.specs.Runs.{HoldsRuns};
-ghost use Rattle.proper_judge.specs.Judging.{Judged};
+ghost use Rattle.std.specs.Prelude.{◌≤◌, IfOk};
+ghost use Rattle.proper_judge.specs.Judging.{Judged, IsFirstKept};
 
-use crate::breach::{Breach, find_breach};
-use crate::runs::{KeptRun, follow};
+use crate::breach::Breach;
+use crate::event::{Kept, breach_of, is_made, judge_event};
+use crate::marks::Marks;
+use crate::numbers::Numbers;
+use crate::runs::KeptRun;
 use norm_check::Normal;
 use norm_lang::list::Listed;
 use source_machine::{SourceEvent, SourceState};
@@ -23,19 +24,22 @@ pub enum SoFar {
     NotEnabled { at: u64 },
 }
 
-/// The lists of callers none of which has begun.
-pub(crate) fn first_runs(alloc: Global, callers: u32) -> Result<Listed<KeptRun>, AllocError>
-    ensures holds { IfOk result (λ kept. HoldsRuns kept (λ c. record { got = []; old = [] })) }
-    ensures many { IfOk result (λ kept. length kept ≡ callers) }
+/// What is kept at the start of callers none of which has begun.
+pub(crate) fn first_kept(alloc: Global, callers: u32) -> Result<Kept, AllocError>
+    ensures { IfOk result (IsFirstKept callers) }
 {
-    let mut runs = Listed::empty(alloc);
+    let mut runs = Vec::new(alloc);
     for _ in 0..callers {
         runs.push(KeptRun {
             got: Listed::empty(alloc),
-            old: Listed::empty(alloc),
+            before: 0,
         })?;
     }
-    Ok(runs)
+    Ok(Kept {
+        runs,
+        retirements: Numbers::none(alloc),
+        marks: Marks::none(alloc),
+    })
 }
 
 /// Whether the events, from the start of so many idle callers, at least one, are a run each of whose states is proper.
@@ -52,12 +56,13 @@ pub fn judge_run(
     ensures { IfOk result (Judged normal.now callers events.now) }
 {
     let mut state = SourceState::start(alloc, normal, callers)?;
-    let mut runs = first_runs(alloc, callers)?;
+    let mut kept = first_kept(alloc, callers)?;
     for (at, event) in events.iter().enumerate() {
-        if !follow(alloc, normal, event, &mut state, &mut runs)? {
+        let told = judge_event(alloc, normal, event, &mut state, &mut kept)?;
+        if !is_made(told) {
             return Ok(SoFar::NotEnabled { at: at as u64 });
         }
-        if let Some(breach) = find_breach(alloc, state.machine(), runs.items())? {
+        if let Some(breach) = breach_of(told) {
             return Ok(SoFar::Improper {
                 breach,
                 at: at as u64,

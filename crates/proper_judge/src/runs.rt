@@ -1,35 +1,32 @@
 //! What method runs have got, kept beside a run.
 
-ghost use Rattle.std.specs.Prelude.{◌≡◌, option_copied, slice_get, length, [], ◌∷◌, ◌++◌, IfOk};
-ghost use Rattle.source_machine.specs.Calls.{IsOfSourceRun};
+ghost use Rattle.std.specs.Prelude.{◌≡◌, option_copied, slice_get, [], IfOk};
 ghost use Rattle.source_machine.specs.Step.{performed};
 ghost use Rattle.source_machine.specs.Run.{mover};
-ghost use Rattle.source_machine.specs.MethodRuns.{run_begun, run_with, name_got, MethodRun};
-ghost use Rattle.proper_judge.specs.Runs.{HoldsRun, HoldsRuns, gain_in, gain_of, gain_at, run_gained, stand_of, is_wrap_up, NextOf, placed, Follows};
+ghost use Rattle.source_machine.specs.MethodRuns.{name_got};
+ghost use Rattle.proper_judge.specs.Runs.{gain_in, gain_of, gain_at, stand_of, is_wrap_up, IsNamed, IsGained, Follows};
 
 use crate::reach::is_in;
-use norm_check::Normal;
 use norm_lang::list::Listed;
 use norm_lang::local::instruction_at;
 use norm_lang::registers::Registers;
 use norm_lang::text::{Instr, Op, Text};
 use source_machine::{
-    Memory, Running, SourceCaller, SourceEvent, SourceMachine, SourceState, Stand, StepError,
-    Value, loaded, mover, step,
+    Memory, Running, SourceCaller, SourceEvent, SourceMachine, Stand, Value, loaded, mover,
 };
 use std::alloc::{AllocError, Global};
 
-/// The names that a method run has got, and those that were retired before it began, in any order.
+/// The names that a method run has got, in the order in which it got them first, and how many retirements came before it began.
 #[derive(Drop)]
 pub struct KeptRun {
     pub got: Listed<u64>,
-    pub old: Listed<u64>,
+    pub before: usize,
 }
 
 /// What an event does to the method run of its caller: another begins, or it gets a name, 0 for none, if it is still in a method
 /// then, or whatever comes.
 #[derive(Clone, Copy)]
-pub(crate) enum Gain {
+pub enum Gain {
     Begins,
     Gets(u64),
     GetsInside(u64),
@@ -94,7 +91,8 @@ fn gain_of(text: &Text, event: &SourceEvent, caller: &SourceCaller, memory: &Mem
     }
 }
 
-fn gain_at(text: &Text, event: &SourceEvent, machine: &SourceMachine) -> Gain
+/// What an event does to the method run of its caller, by the state before it.
+pub fn gain_at(text: &Text, event: &SourceEvent, machine: &SourceMachine) -> Gain
     ensures { result ≡ gain_at text.now event.now machine.now.memory (slice_get machine.now.callers (mover event.now)) }
 {
     match machine.callers.items().get(mover(event) as usize) {
@@ -103,48 +101,27 @@ fn gain_at(text: &Text, event: &SourceEvent, machine: &SourceMachine) -> Gain
     }
 }
 
-/// A run that begins.
-pub(crate) fn begun(alloc: Global, memory: &Memory) -> Result<KeptRun, AllocError>
-    ensures { IfOk result (λ kept. HoldsRun kept (run_begun memory.now)) }
+/// A run that gets a name, and the name if it hadn't got it before.
+fn with_name(run: &mut KeptRun, name: u64) -> Result<Option<u64>, AllocError>
+    ensures { IfOk result (IsNamed name run.old run.new) }
 {
-    let old = Listed::from_slice(alloc, memory.retired.items())?;
-    Ok(KeptRun {
-        got: Listed::empty(alloc),
-        old,
-    })
-}
-
-fn copied(alloc: Global, run: &KeptRun) -> Result<KeptRun, AllocError>
-    ensures { IfOk result (λ kept. kept ≡ run.now) }
-{
-    let got = Listed::from_slice(alloc, run.got.items())?;
-    let old = Listed::from_slice(alloc, run.old.items())?;
-    Ok(KeptRun { got, old })
-}
-
-fn with_more(alloc: Global, run: &KeptRun, name: u64) -> Result<KeptRun, AllocError>
-    ensures { IfOk result (λ kept. kept ≡ record { got = run.now.got ++ name ∷ []; old = run.now.old }) }
-{
-    let mut got = Listed::from_slice(alloc, run.got.items())?;
-    got.push(name)?;
-    let old = Listed::from_slice(alloc, run.old.items())?;
-    Ok(KeptRun { got, old })
-}
-
-/// A run that gets a name.
-fn with_name(alloc: Global, run: &KeptRun, name: u64) -> Result<KeptRun, AllocError>
-    ensures { IfOk result (λ kept. (r : MethodRun) → HoldsRun run.now r → HoldsRun kept (run_with name r)) }
-{
-    if name == 0 {
-        return copied(alloc, run);
+    if name == 0 || is_in(name, run.got.items()) {
+        return Ok(None);
     }
-    if is_in(name, run.got.items()) {
-        return copied(alloc, run);
-    }
-    with_more(alloc, run, name)
+    run.got.push(name)?;
+    Ok(Some(name))
 }
 
-fn is_in_wrap_up(caller: Option<&SourceCaller>) -> bool
+/// A run that begins after so many retirements.
+fn begin(alloc: Global, run: &mut KeptRun, count: usize)
+    ensures { run.new ≡ record { got = []; before = count } }
+{
+    run.got = Listed::empty(alloc);
+    run.before = count;
+}
+
+/// Whether the caller stands in a wrap-up.
+pub fn is_in_wrap_up(caller: Option<&SourceCaller>) -> bool
     ensures { result ≡ is_wrap_up (stand_of (option_copied caller.entry)) }
 {
     match caller {
@@ -160,92 +137,46 @@ fn is_in_wrap_up(caller: Option<&SourceCaller>) -> bool
     }
 }
 
-/// The run after an event, by what is then in memory and where its caller then stands.
+/// The run after an event, by the count of retirements and by where its caller then stands, and the name that it has got now and
+/// hadn't before.
 fn gained(
     alloc: Global,
     gain: Gain,
-    memory: &Memory,
+    count: usize,
     caller: Option<&SourceCaller>,
-    run: &KeptRun,
-) -> Result<KeptRun, AllocError>
-    ensures { IfOk result (λ kept. (r : MethodRun) → HoldsRun run.now r → HoldsRun kept (run_gained gain memory.now (stand_of (option_copied caller.entry)) r)) }
+    run: &mut KeptRun,
+) -> Result<Option<u64>, AllocError>
+    ensures { IfOk result (IsGained gain count (stand_of (option_copied caller.entry)) run.old run.new) }
 {
     match gain {
-        Gain::Begins => begun(alloc, memory),
-        Gain::Gets(name) => with_name(alloc, run, name),
+        Gain::Begins => {
+            begin(alloc, run, count);
+            Ok(None)
+        }
+        Gain::Gets(name) => with_name(run, name),
         Gain::GetsInside(name) => {
             if is_in_wrap_up(caller) {
-                with_name(alloc, run, name)
-            } else {
-                begun(alloc, memory)
+                return with_name(run, name);
             }
+            begin(alloc, run, count);
+            Ok(None)
         }
     }
 }
 
-fn next_run(
-    alloc: Global,
-    gain: Gain,
-    memory: &Memory,
-    caller: Option<&SourceCaller>,
-    run: Option<&KeptRun>,
-) -> Result<Option<KeptRun>, AllocError>
-    ensures { IfOk result (NextOf (option_copied run.entry) (run_gained gain memory.now (stand_of (option_copied caller.entry)))) }
-{
-    match run {
-        None => Ok(None),
-        Some(run) => Ok(Some(gained(alloc, gain, memory, caller, run)?)),
-    }
-}
-
-fn place(runs: &mut Listed<KeptRun>, c: usize, next: Option<KeptRun>)
-    ensures { runs.new ≡ placed runs.old c next }
-{
-    if let Some(run) = next {
-        runs.replace(c, run);
-    }
-}
-
-fn caller_at(machine: &SourceMachine, c: usize) -> Option<&SourceCaller>
-    ensures { option_copied result ≡ slice_get machine.now.callers c }
-{
-    machine.callers.items().get(c)
-}
-
-fn run_of(runs: &[KeptRun], c: usize) -> Option<&KeptRun>
-    ensures { option_copied result ≡ slice_get runs.now c }
-{
-    runs.get(c)
-}
-
-/// Makes an event, if it is enabled, and follows the method run of its caller.
+/// Follows the run of a caller after an event, and answers with the name that it has got now and hadn't before.
 pub(crate) fn follow(
     alloc: Global,
-    normal: &Normal,
-    event: &SourceEvent,
-    state: &mut SourceState,
-    runs: &mut Listed<KeptRun>,
-) -> Result<bool, AllocError>
-    requires { IsOfSourceRun normal.now state.old }
-    ensures follows { IfOk result (Follows normal.now event.now state.old state.new runs.old runs.new) }
-    ensures runs { IsOfSourceRun normal.now state.new }
-    ensures callers { length state.new.callers ≡ length state.old.callers }
+    gain: Gain,
+    machine: &SourceMachine,
+    c: usize,
+    runs: &mut Vec<KeptRun>,
+) -> Result<Option<u64>, AllocError>
+    ensures { IfOk result (Follows gain machine.now c runs.old.items runs.new.items) }
 {
-    let gain = gain_at(normal.text(), event, state.machine());
-    match step(alloc, state, normal, event) {
-        Ok(()) => {}
-        Err(StepError::NotEnabled) => return Ok(false),
-        Err(StepError::Memory) => return Err(AllocError),
+    let count = machine.memory.retired.items().len();
+    match runs.get_mut(c) {
+        None => Ok(None),
+        Some(run) => gained(alloc, gain, count, machine.callers.items().get(c), run),
     }
-    let machine = state.machine();
-    let c = mover(event) as usize;
-    let next = next_run(
-        alloc,
-        gain,
-        &machine.memory,
-        caller_at(machine, c),
-        run_of(runs.items(), c),
-    )?;
-    place(runs, c, next);
-    Ok(true)
 }

@@ -4,8 +4,9 @@ ghost use Rattle.std.specs.Prelude.{◌≤◌, ◌≡◌, length, IfOk};
 ghost use Rattle.source_machine.specs.Calls.{IsOfSourceRun};
 
 use crate::breach::Breach;
-use crate::judging::first_runs;
-use crate::runs::{KeptRun, follow};
+use crate::event::judge_event;
+use crate::judging::first_kept;
+use crate::runs::KeptRun;
 use norm_check::Normal;
 use norm_lang::list::Listed;
 use source_machine::{Memory, SourceEvent, SourceState, Value};
@@ -187,18 +188,16 @@ pub fn trace_breach(
     requires { 1 ≤ callers }
 {
     let mut state = SourceState::start(alloc, normal, callers)?;
-    let mut runs = first_runs(alloc, callers)?;
+    let mut kept = first_kept(alloc, callers)?;
     for (place, event) in events.iter().enumerate() {
         if place as u64 > at {
             break;
         }
-        follow(alloc, normal, event, &mut state, &mut runs)?;
+        judge_event(alloc, normal, event, &mut state, &mut kept)?;
     }
     match breach {
         Breach::Twice => last_retired(alloc, state),
         Breach::Root { name } => way_from_root(alloc, state, name),
-        Breach::Got { caller, name } => {
-            way_from_got(alloc, state, runs.items().get(caller), name)
-        }
+        Breach::Got { caller, name } => { way_from_got(alloc, state, kept.runs.get(caller), name) }
     }
 }

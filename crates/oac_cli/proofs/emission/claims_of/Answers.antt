@@ -1,4 +1,4 @@
-use Rattle.std.proofs.Common.{◌≡◌, ◌++◌, ◌∷◌, [], ◌∙◌, List, ap, arith}
+use Rattle.std.proofs.Common.{◌++◌, ◌∷◌, [], ◌∙◌, List, ap, arith}
 use Rattle.c_language.specs.declared.lines.Line.{Line}
 use Rattle.oac_cli.specs.Emitted.{claim_of}
 use Rattle.oac_cli.proofs.Counting.{counted_more}

@@ -1,0 +1,9 @@
+pub mod Hands
+pub mod Making
+pub mod Accesses
+pub mod Clears
+pub mod Locals
+pub mod Starts
+pub mod Layouts
+pub mod Stops
+pub mod Fitting

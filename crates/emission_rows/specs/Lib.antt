@@ -1,0 +1,4 @@
+pub mod Telling
+pub mod Targets
+pub mod BlockRows
+pub mod CallRows

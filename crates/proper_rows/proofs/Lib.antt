@@ -1,0 +1,4 @@
+pub mod Eight
+pub mod Retired
+pub mod Conditions
+pub mod Breaches

@@ -1,0 +1,4 @@
+pub mod BreachRows
+pub mod Conditions
+pub mod Eight
+pub mod RetiredRows

@@ -1,0 +1,11 @@
+pub mod Renaming
+pub mod Loading
+pub mod Standing
+pub mod Storing
+pub mod Extending
+pub mod Turning
+pub mod Simulating
+pub mod Joining
+pub mod Closing
+pub mod Tested
+pub mod Testing
